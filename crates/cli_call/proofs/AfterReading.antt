@@ -13,7 +13,7 @@ use Rattle.cny_laws.proofs.system-core.tree-disk.Moments.{rose_before}
 use Rattle.cny_laws.proofs.system-core.tree-disk.Unfailed.{unfailed_then, unfailed_weaker}
 use Rattle.cny_laws.specs.declared.failure.Failure.{Failure}
 use Rattle.cny_laws.specs.declared.failure.Failure.TheVariants as failure
-use Rattle.cli_call.specs.Command.{Disks, Goes, HasCause, Performs, PerformsFrom, StandsFor}
+use Rattle.cli_call.specs.Command.{Disks, Goes, HasFailureCause, Performs, PerformsFrom, StandsFor}
 use Rattle.cny_laws.specs.Shown.{IsShown}
 use Rattle.cli_call.proofs.CommandLaws.{AreRead, performs_from_more, read_shown}
 use Rattle.cny_laws.specs.Report.{End}
@@ -36,7 +36,7 @@ shown_since : (IsOutcome : Result Effect Refusal → Type 0) (s : State) (before
 shown_since IsOutcome s before now t same shown = subst (λ (u : Tree). IsShown IsOutcome s u t) same shown
 
 module _ {T P : Type 0} {root_disk : DiskModel T} {repo_disk : DiskModel P} where
-  cause_since : (old mid new : Disks T P) (result : Result (List ℕ) Failure) → AreRead root_disk repo_disk old mid → HasCause root_disk repo_disk mid new result → HasCause root_disk repo_disk old new result
+  cause_since : (old mid new : Disks T P) (result : Result (List ℕ) Failure) → AreRead root_disk repo_disk old mid → HasFailureCause root_disk repo_disk mid new result → HasFailureCause root_disk repo_disk old new result
   cause_since old mid new (Err failure.RootFault) read cause = rose_before (root_disk.faults old.root) (root_disk.faults mid.root) (root_disk.faults new.root) read.root_later cause
   cause_since old mid new (Err failure.RepositoryFault) read cause = rose_before (repo_disk.faults old.repo) (repo_disk.faults mid.repo) (repo_disk.faults new.repo) read.repo_later cause
   cause_since old mid new _ read cause = cause

@@ -8,9 +8,9 @@ use Rattle.cny_laws.specs.system-core.tree-disk.Confined.{IsUnsynced}
 use Rattle.cny_laws.proofs.system-core.tree-disk.ConfinedLaws.{false_from_not}
 use Rattle.cny_laws.specs.system-core.tree-journal.Recovery.{is_committed}
 use Rattle.cny_laws.specs.system-core.FixedDirs.{fixed_dirs}
-use Rattle.cny_laws.specs.system-core.Opening.{IsAtRest}
+use Rattle.cny_laws.specs.system-core.Opening.{IsSettledRoot}
 use Rattle.cny_laws.specs.system-core.RootReady as job
-use Rattle.cny_laws.specs.system-core.Rollback.{IsReadyWith}
+use Rattle.cny_laws.specs.system-core.Rollback.{MayRollBack}
 use Rattle.local_db.specs.declared.db.Db.{Db}
 use Rattle.local_db.specs.declared.format.Format.TheVariants.{Two}
 use Rattle.local_db.specs.Stores.{IsDatabase}
@@ -31,11 +31,11 @@ use Rattle.cli_call.proofs.StoreLaws.{read_settled}
 pub on_done : {A X : Type 0} (r : Result A Stop) (x : A) → root_result r ≡ Ok x → OnOk r X → X
 on_done {A = A} {X = X} r x is so = subst (λ (o : Result A Stop). OnOk o X) (root_ok r x is) so
 
-ready_with : {D : Type 0} {disk : DiskModel D} {db : Db} {d : D} → job.IsReady disk db d → IsReadyWith disk db d
+ready_with : {D : Type 0} {disk : DiskModel D} {db : Db} {d : D} → job.MayBeginJob disk db d → MayRollBack disk db d
 ready_with ready = record { flag_clear = ready.flag_clear; synced = ready.synced; holds = ready.holds }
 
 -- a root on which a further job may begin is at rest
-pub ready_rests : {D A : Type 0} (disk : DiskModel D) (db : Db) (d : D) (r : Result A Stop) → OnOk r (job.IsReady disk db d) → OnOk r (IsAtRest disk d)
+pub ready_rests : {D A : Type 0} (disk : DiskModel D) (db : Db) (d : D) (r : Result A Stop) → OnOk r (job.MayBeginJob disk db d) → OnOk r (IsSettledRoot disk d)
 ready_rests disk db d (Ok x) ready = record { flag_clear = ready.flag_clear; synced = ready.synced }
 ready_rests disk db d (Err e) ready = tt
 
@@ -88,7 +88,7 @@ module _ {T P : Type 0} {root_disk : DiskModel T} {repo_disk : DiskModel P} wher
   -- ---- jobs and rollbacks
 
   -- what was put on the root is this database, and its fixed directories stayed
-  pub ready_put : (root root' : T) (repo : P) (opened : Opened) (db : Db) → (IsTrue root_disk.tells → IsReadyWith root_disk db root') → (IsTrue root_disk.tells → fixed_dirs (root_disk.reads root') ≡ fixed_dirs (root_disk.reads root))
+  pub ready_put : (root root' : T) (repo : P) (opened : Opened) (db : Db) → (IsTrue root_disk.tells → MayRollBack root_disk db root') → (IsTrue root_disk.tells → fixed_dirs (root_disk.reads root') ≡ fixed_dirs (root_disk.reads root))
       → IsDatabase Two db.installed db.oldest db.newest → AreReady root_disk repo_disk (disks root repo opened) → AreReady root_disk repo_disk (disks root' repo (record { db = db; catalogue = opened.catalogue }))
   ready_put root root' repo opened db put fixed rules ready = record {
     root = λ told. record {
@@ -103,14 +103,14 @@ module _ {T P : Type 0} {root_disk : DiskModel T} {repo_disk : DiskModel P} wher
   }
 
   -- a job was done
-  pub ready_changed : {A : Type 0} (root root' : T) (repo : P) (opened : Opened) (db : Db) (r : Result A Stop) (x : A) → root_result r ≡ Ok x → (IsTrue root_disk.tells → OnOk r (job.IsReady root_disk db root'))
+  pub ready_changed : {A : Type 0} (root root' : T) (repo : P) (opened : Opened) (db : Db) (r : Result A Stop) (x : A) → root_result r ≡ Ok x → (IsTrue root_disk.tells → OnOk r (job.MayBeginJob root_disk db root'))
       → (IsTrue root_disk.tells → OnOk r (fixed_dirs (root_disk.reads root') ≡ fixed_dirs (root_disk.reads root))) → IsDatabase Two db.installed db.oldest db.newest
       → AreReady root_disk repo_disk (disks root repo opened) → AreReady root_disk repo_disk (disks root' repo (record { db = db; catalogue = opened.catalogue }))
   ready_changed root root' repo opened db r x is again fixed rules ready =
       ready_put root root' repo opened db (λ told. ready_with (on_done r x is (again told))) (λ told. on_done r x is (fixed told)) rules ready
 
   -- jobs were taken back
-  pub ready_rolled : {A : Type 0} (root root' : T) (repo : P) (opened : Opened) (db : Db) (r : Result A Stop) (x : A) → root_result r ≡ Ok x → (IsTrue root_disk.tells → OnOk r (IsReadyWith root_disk db root'))
+  pub ready_rolled : {A : Type 0} (root root' : T) (repo : P) (opened : Opened) (db : Db) (r : Result A Stop) (x : A) → root_result r ≡ Ok x → (IsTrue root_disk.tells → OnOk r (MayRollBack root_disk db root'))
       → (IsTrue root_disk.tells → OnOk r (fixed_dirs (root_disk.reads root') ≡ fixed_dirs (root_disk.reads root))) → IsDatabase Two db.installed db.oldest db.newest
       → AreReady root_disk repo_disk (disks root repo opened) → AreReady root_disk repo_disk (disks root' repo (record { db = db; catalogue = opened.catalogue }))
   ready_rolled root root' repo opened db r x is again fixed rules ready = ready_put root root' repo opened db (λ told. on_done r x is (again told)) (λ told. on_done r x is (fixed told)) rules ready

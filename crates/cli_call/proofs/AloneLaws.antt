@@ -16,7 +16,7 @@ use Rattle.cny_laws.specs.declared.failure.Failure.TheVariants as failure
 use Rattle.repo_load.specs.Files.{repository_base}
 use Rattle.cli_call.specs.Alone.{ActsOnRepository, AnswersByTree, PerformsAlone}
 use Rattle.cny_laws.specs.Call.{HasTree}
-use Rattle.cli_call.specs.Command.{AreReady, Disks, Answers, HasCause, end_of}
+use Rattle.cli_call.specs.Command.{AreReady, Disks, AnswersAs, HasFailureCause, end_of}
 use Rattle.cli_call.proofs.CommandLaws.{answers_more, goes_read, read_shown, shown_more}
 use Rattle.cny_laws.specs.Failures.{failure_of_fault}
 use Rattle.cny_laws.specs.State.{State, nothing, Effect, Meaning}
@@ -46,7 +46,7 @@ where_weaker m input more (Err failure.Memory) h = tt
 where_weaker m input more (Err (failure.Damaged path)) h = λ told s is. h told s (more told s is)
 where_weaker m input more _ h = absurd h
 
-pub where_answers : {tells : Bool} (Is : State → Type 0) (m : Meaning) (input : List ℕ) (s : State) → IsTrue tells → Is s → (result : Result (List ℕ) Failure) → AnswersWhere tells Is m input result → Answers (m.IsOutcome s input) s s result
+pub where_answers : {tells : Bool} (Is : State → Type 0) (m : Meaning) (input : List ℕ) (s : State) → IsTrue tells → Is s → (result : Result (List ℕ) Failure) → AnswersWhere tells Is m input result → AnswersAs (m.IsOutcome s input) s s result
 where_answers Is m input s told is (Ok text) h = record { effect = record { change = nothing; out = text }; is = h told s is; leads = refl; bytes = refl }
 where_answers Is m input s told is (Err (failure.Refused r)) h = (h told s is, refl)
 where_answers Is m input s told is (Err failure.RootFault) h = inl refl
@@ -105,13 +105,13 @@ AnswersApart repo_disk m input repo (Err failure.Memory) = Unit {0}
 AnswersApart repo_disk m input repo _ = ⊥
 
 module _ {T P : Type 0} {root_disk : DiskModel T} {repo_disk : DiskModel P} (repo_laws : IsDisk repo_disk) (store_laws : IsStore repository_store) (m : Meaning) (input : List ℕ) (at : Disks T P) (ready : AreReady root_disk repo_disk at) where
-  answers_apart : (s : State) → IsTrue repo_disk.tells → RestsAt repository_store repo_disk at.repo s.repository → (result : Result (List ℕ) Failure) → AnswersApart repo_disk m input at.repo result → Answers (m.IsOutcome s input) s s result
+  answers_apart : (s : State) → IsTrue repo_disk.tells → RestsAt repository_store repo_disk at.repo s.repository → (result : Result (List ℕ) Failure) → AnswersApart repo_disk m input at.repo result → AnswersAs (m.IsOutcome s input) s s result
   answers_apart s told rests (Ok text) h = record { effect = record { change = nothing; out = text }; is = h told s rests; leads = refl; bytes = refl }
   answers_apart s told rests (Err (failure.Refused r)) h = (h told s rests, refl)
   answers_apart s told rests (Err failure.Memory) h = inl refl
   answers_apart s told rests _ h = absurd h
 
-  cause_apart : (result : Result (List ℕ) Failure) → AnswersApart repo_disk m input at.repo result → HasCause root_disk repo_disk at at result
+  cause_apart : (result : Result (List ℕ) Failure) → AnswersApart repo_disk m input at.repo result → HasFailureCause root_disk repo_disk at at result
   cause_apart (Ok text) h = tt
   cause_apart (Err (failure.Refused r)) h = tt
   cause_apart (Err failure.Memory) h = tt

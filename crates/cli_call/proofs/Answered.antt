@@ -9,9 +9,9 @@ use Rattle.cny_laws.specs.system-core.tree-disk.Tree.{Name}
 use Rattle.cny_laws.specs.declared.failure.Failure.{Failure}
 use Rattle.cny_laws.specs.declared.failure.Failure.TheVariants as failure
 use Rattle.cli_call.specs.Alone.{ActsOnRepository, AnswersByLists, PerformsAlone}
-use Rattle.cny_laws.specs.Call.{HasLists}
+use Rattle.cny_laws.specs.Call.{HasOpenedLists}
 use Rattle.cli_call.specs.Answer.{AnswersSo}
-use Rattle.cli_call.specs.Command.{Disks, AreReady, HasCause, Performs, StandsFor}
+use Rattle.cli_call.specs.Command.{Disks, AreReady, HasFailureCause, Performs, StandsFor}
 use Rattle.cny_laws.specs.Failures.{failure_of_fault}
 use Rattle.cny_laws.specs.State.{nothing, Effect, Meaning, State}
 use Rattle.cny_laws.specs.Store.{IsStore, RestsAt}
@@ -40,7 +40,7 @@ module _ {T P : Type 0} {root_disk : DiskModel T} {repo_disk : DiskModel P} (roo
   answers (Err (fault.Refused why)) is = λ root repo s stands. means root repo s stands _ is
   answers (Err fault.Memory) is = tt
 
-  cause : (r : Result (List ℕ) Fault) → HasCause root_disk repo_disk m m (result_of r)
+  cause : (r : Result (List ℕ) Fault) → HasFailureCause root_disk repo_disk m m (result_of r)
   cause (Ok text) = tt
   cause (Err (fault.Refused why)) = tt
   cause (Err fault.Memory) = tt
@@ -78,14 +78,14 @@ fault_acted repo_disk_laws store_laws meaning input m ready fault.Memory refuses
 
 -- by what it is on each state that has the lists which were read when the disks were opened
 module _ {T P : Type 0} {root_disk : DiskModel T} {repo_disk : DiskModel P} (meaning : Meaning) (input : List ℕ) (m : Disks T P) where
-  pub fault_listed : (f : Fault) → ((r : Refusal) → f ≡ fault.Refused r → (s : State) → HasLists m.opened s → meaning.IsOutcome s input (Err r)) → AnswersByLists root_disk repo_disk meaning input m m (Err (failure_of_fault f))
+  pub fault_listed : (f : Fault) → ((r : Refusal) → f ≡ fault.Refused r → (s : State) → HasOpenedLists m.opened s → meaning.IsOutcome s input (Err r)) → AnswersByLists root_disk repo_disk meaning input m m (Err (failure_of_fault f))
   fault_listed (fault.Refused r) refuses = record { root = refl; repo = refl; answers = λ s has. (refuses r refl s has, refl) }
   fault_listed fault.Memory refuses = record { root = refl; repo = refl; answers = λ s has. inl refl }
 
-  pub text_listed : (text : List ℕ) → ((s : State) → HasLists m.opened s → meaning.IsOutcome s input (Ok (record { change = nothing; out = text }))) → AnswersByLists root_disk repo_disk meaning input m m (Ok text)
+  pub text_listed : (text : List ℕ) → ((s : State) → HasOpenedLists m.opened s → meaning.IsOutcome s input (Ok (record { change = nothing; out = text }))) → AnswersByLists root_disk repo_disk meaning input m m (Ok text)
   text_listed text is = record { root = refl; repo = refl; answers = λ s has. record { effect = record { change = nothing; out = text }; is = is s has; leads = refl; bytes = refl } }
 
-  pub by_lists : (outcome : Result Effect Refusal) → ((s : State) → HasLists m.opened s → (o : Result Effect Refusal) → outcome ≡ o → meaning.IsOutcome s input o) → (r : Result (List ℕ) Fault) → AnswersSo outcome r → AnswersByLists root_disk repo_disk meaning input m m (result_of r)
+  pub by_lists : (outcome : Result Effect Refusal) → ((s : State) → HasOpenedLists m.opened s → (o : Result Effect Refusal) → outcome ≡ o → meaning.IsOutcome s input o) → (r : Result (List ℕ) Fault) → AnswersSo outcome r → AnswersByLists root_disk repo_disk meaning input m m (result_of r)
   by_lists outcome means (Ok text) is = text_listed text (λ s has. means s has _ is)
   by_lists outcome means (Err (fault.Refused why)) is = fault_listed (fault.Refused why) (λ r same s has. let one : why ≡ r = cc same in means s has _ (is ∙ ap Err one))
   by_lists outcome means (Err fault.Memory) is = fault_listed fault.Memory (λ r same s has. absurd (cc same))

@@ -22,7 +22,7 @@ use Rattle.cny_laws.specs.Stores.{root_store}
 use Rattle.cny_laws.specs.Edits.{all_edited, edits_beside, with_tree}
 use Rattle.cny_laws.proofs.SeveralEdits.{all_kept, kept_beside}
 use Rattle.local_db.specs.Stores.{RecoversToSystem}
-use Rattle.cny_laws.specs.WholeCall.{CallFacts, CallFrom, FromStates, MeetsLog, Reaches, RefusesRoot, after_edits}
+use Rattle.cny_laws.specs.WholeCall.{CallFacts, CallFrom, FromStates, MeetsLog, CallReaches, RefusesRoot, after_edits}
 
 -- a tree has one log at most
 same_log : (x : Tree) (puts others : List Put) → HoldsLog private_directory puts x → HoldsLog private_directory others x → others ≡ puts
@@ -54,14 +54,14 @@ module _ {T P : Type 0} (root_disk : DiskModel T) (repo_disk : DiskModel P) (bef
   refuses end (stop.FarDamaged path) is opens small = absurd opens.stops
 
 -- a system to which a root recovers
-as_pair : (x : Tree) (s : RootState) → Recovers root_store x s → RecoversToSystem x s
+pub as_pair : (x : Tree) (s : RootState) → Recovers root_store x s → RecoversToSystem x s
 as_pair x s rec = (rec.tree, rec.recovers, rec.stored)
 
-as_record : (x y : Tree) (s : RootState) → y ≡ x → RecoversToSystem x s → Recovers root_store y s
+pub as_record : (x y : Tree) (s : RootState) → y ≡ x → RecoversToSystem x s → Recovers root_store y s
 as_record x y s is r = subst (λ (t : Tree). Recovers root_store t s) (sym is) (record { tree = r.0; recovers = r.1; stored = r.2 })
 
 pub meets_log : {T P : Type 0} (root_disk : DiskModel T) (repo_disk : DiskModel P) (scope : Scope) (m : Meaning) (input : List ℕ) (before now : CallState T P) (end : End)
-    → Reaches root_disk repo_disk scope m input before now end → CallFacts root_disk repo_disk before now end → FromStates root_disk repo_disk before (λ s. CallFrom root_disk repo_disk m input s before now end)
+    → CallReaches root_disk repo_disk scope m input before now end → CallFacts root_disk repo_disk before now end → FromStates root_disk repo_disk before (λ s. CallFrom root_disk repo_disk m input s before now end)
     → MeetsLog root_disk repo_disk m input before now end
 meets_log root_disk repo_disk scope m input before now end reaches facts from = record {
   blocked = λ told puts set holds cannot.

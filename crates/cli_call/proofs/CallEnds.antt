@@ -8,7 +8,7 @@ use Rattle.cny_laws.specs.declared.failure.Failure.{Failure}
 use Rattle.cny_laws.specs.Shown.{IsShown}
 use Rattle.cny_laws.specs.system-core.FixedDirs.{fixed_dirs}
 use Rattle.cli_call.proofs.InputLaws.{left_err, left_ok, some_so}
-use Rattle.cli_call.specs.Line.{Ends}
+use Rattle.cli_call.specs.Line.{EndsWriting}
 use Rattle.cli_call.proofs.LineLaws.{takes_so}
 use Rattle.cny_laws.specs.Reading.{given, left_by, Gives, ReadsGiven}
 use Rattle.cny_laws.specs.Report.{End, status_of}
@@ -67,7 +67,7 @@ not_given m s input r fixed is =
     (subst (λ (g : Result (List ℕ) Refusal). Then g (m.IsOutcome s) (Err r)) (sym is) refl)
 
 -- where each outcome of the one meaning is one of the other
-ends_more : {One Two : Result Effect Refusal → Type 0} → ((o : Result Effect Refusal) → One o → Two o) → (before now : SinkState) (s next : State) (end : End) → Ends One s next before now end → CallEnds Two s next before now end
+ends_more : {One Two : Result Effect Refusal → Type 0} → ((o : Result Effect Refusal) → One o → Two o) → (before now : SinkState) (s next : State) (end : End) → EndsWriting One s next before now end → CallEnds Two s next before now end
 ends_more more before now s next (Ok x) h = takes_more more h
 ends_more more before now s next (Err (failure.Refused r)) h = (more (Err r) h.0, h.1)
 ends_more more before now s next (Err failure.OutputFault) h = takes_more more h
@@ -93,7 +93,7 @@ module _ (m : Meaning) (s : State) (input : List ℕ) (fixed : fixed_dirs (tree_
     to_outcome : (o : Result Effect Refusal) → m.IsOutcome s bytes o → Outcome m s input o
     to_outcome o h = outcome_of m s input bytes o fixed gives h
 
-    pub run_ends : (before now : SinkState) (next : State) (end : End) → Ends (m.IsOutcome s bytes) s next before now end → CallEnds (Outcome m s input) s next before now end
+    pub run_ends : (before now : SinkState) (next : State) (end : End) → EndsWriting (m.IsOutcome s bytes) s next before now end → CallEnds (Outcome m s input) s next before now end
     run_ends before now next end h = ends_more to_outcome before now s next end h
 
     pub shown_so : {tree : Tree} (t : Tree) → IsShown (m.IsOutcome s bytes) s tree t → IsShown (Outcome m s input) s tree t
@@ -108,7 +108,7 @@ module _ (m : Meaning) (s : State) (input : List ℕ) where
   own_unread out out' failure.Memory reads gives = inl refl
   own_unread out out' _ reads gives = absurd reads.cause
 
-  pub own_ends : (bytes : List ℕ) → given m.takes_input input ≡ Ok bytes → (before now : SinkState) (next : State) (end : End) → Ends (m.IsOutcome s bytes) s next before now end → CallEnds (OwnOutcome m s input) s next before now end
+  pub own_ends : (bytes : List ℕ) → given m.takes_input input ≡ Ok bytes → (before now : SinkState) (next : State) (end : End) → EndsWriting (m.IsOutcome s bytes) s next before now end → CallEnds (OwnOutcome m s input) s next before now end
   own_ends bytes gives before now next end h = ends_more (λ o is. subst (λ (g : Result (List ℕ) Refusal). Then g (m.IsOutcome s) o) (sym gives) is) before now s next end h
 
 -- ---- what is left of the input

@@ -13,7 +13,7 @@ use Rattle.cny_laws.specs.declared.failure.Failure.TheVariants as failure
 use Rattle.cny_laws.specs.declared.opened.Opened.{Opened}
 use Rattle.cny_laws.specs.Call.{CallState, AreOpened, NotOpened}
 use Rattle.cli_call.specs.Runs.{StopsReading, RunsWith, RunsOpen, RunsCall}
-use Rattle.cny_laws.specs.WholeCall.{CallFrom, FromStates, IsOnRepository, IsOnRoot, Reaches}
+use Rattle.cny_laws.specs.WholeCall.{CallFrom, FromStates, IsOnRepository, IsOnRoot, CallReaches}
 use Rattle.cli_call.proofs.CallEnds.{own_ends, own_unread}
 use Rattle.cli_call.proofs.CallStates.{from_unopened, from_unread, from_run}
 use Rattle.cli_call.specs.Command.{disks}
@@ -33,7 +33,7 @@ module _ {T P : Type 0} (root_disk : DiskModel T) (repo_disk : DiskModel P) wher
   pub record CallKnown (scope : Scope) (m : Meaning) (before now : CallState T P) (end : End) : Type 0 where
     pub input : List ℕ
     pub is : IsInput m.takes_input before.input input
-    pub reaches : Reaches root_disk repo_disk scope m input before now end
+    pub reaches : CallReaches root_disk repo_disk scope m input before now end
     pub from : FromStates root_disk repo_disk before (λ s. CallFrom root_disk repo_disk m input s before now end)
     pub on_root : scope.of_root ≡ true → IsOnRoot root_disk repo_disk m input before now end
     pub on_repository : scope.of_repository ≡ true → IsOnRepository root_disk repo_disk m input before now end

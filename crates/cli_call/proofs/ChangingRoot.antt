@@ -10,10 +10,10 @@ use Rattle.cny_laws.proofs.system-core.tree-disk.ConfinedLaws.{confined_start}
 use Rattle.cny_laws.specs.system-core.tree-disk.Unfailed.{UnlessFailed}
 use Rattle.repo_load.specs.Files.{repository_base}
 use Rattle.local_db.specs.Stores.{RecoversToSystem}
-use Rattle.cny_laws.specs.system-core.RootWriting.{RecoversToEither}
+use Rattle.cny_laws.specs.system-core.RootWriting.{RecoversToEitherSystem}
 use Rattle.cny_laws.specs.declared.failure.Failure.{Failure}
 use Rattle.cli_call.specs.Alone.{PerformsAlone}
-use Rattle.cli_call.specs.Command.{Disks, AreReady, HasCause, Goes, Answers, Performs, end_of}
+use Rattle.cli_call.specs.Command.{Disks, AreReady, HasFailureCause, Goes, AnswersAs, Performs, end_of}
 use Rattle.cny_laws.specs.Report.{ChangesNothing, status_of}
 use Rattle.cny_laws.specs.Shown.{KeepsOthers, IsShown}
 use Rattle.cli_call.proofs.CommandLaws.{goes_read}
@@ -25,7 +25,7 @@ use Rattle.cny_laws.specs.Stores.{root_store, repository_store}
 -- What the root went through from a state that it stored, and what was answered.
 pub record ChangesRoot {T : Type 0} (root_disk : DiskModel T) (IsOutcome : Result Effect Refusal → Type 0) (s : State) (old new : T) (result : Result (List ℕ) Failure) : Type 0 where
   pub next : RootState
-  pub answers : Answers IsOutcome s (record { root = next; repository = s.repository }) result
+  pub answers : AnswersAs IsOutcome s (record { root = next; repository = s.repository }) result
   pub goes : Goes root_store root_disk s.root next old new (end_of result)
   pub outside : KeepsOthers IsOutcome s (root_disk.reads old) (root_disk.reads new)
   pub seen : UnlessFailed root_disk old new (IsShown IsOutcome s (root_disk.reads old))
@@ -34,7 +34,7 @@ pub record ChangesRoot {T : Type 0} (root_disk : DiskModel T) (IsOutcome : Resul
 pub of_system : (s : RootState) (image : Tree) → RecoversToSystem image s → Recovers root_store image s
 of_system s image rec = record { tree = rec.0; recovers = rec.1; stored = rec.2 }
 
-pub of_either : (s t : RootState) (image : Tree) → RecoversToEither s t image → OneOf root_store s t image
+pub of_either : (s t : RootState) (image : Tree) → RecoversToEitherSystem s t image → OneOf root_store s t image
 of_either s t image either = ⊎_elim (λ one. inl (of_system s image one)) (λ two. inr (of_system t image two)) either
 
 module _ {T P : Type 0} {root_disk : DiskModel T} (repo_disk : DiskModel P) (m : Meaning) (input : List ℕ) (old new : Disks T P) (result : Result (List ℕ) Failure) (same_repo : new.repo ≡ old.repo)
@@ -53,7 +53,7 @@ module _ {T P : Type 0} {root_disk : DiskModel T} (repo_disk : DiskModel P) (m :
     };
   }
 
-  module _ (repo_disk_laws : IsDisk repo_disk) (repo_laws : IsStore repository_store) (ready : AreReady root_disk repo_disk old) (later : root_disk.faults old.root ≤ root_disk.faults new.root) (cause : HasCause root_disk repo_disk old new result)
+  module _ (repo_disk_laws : IsDisk repo_disk) (repo_laws : IsStore repository_store) (ready : AreReady root_disk repo_disk old) (later : root_disk.faults old.root ≤ root_disk.faults new.root) (cause : HasFailureCause root_disk repo_disk old new result)
       (settles : status_of (end_of result) ≤ 4 → IsTrue root_disk.tells → IsSettled root_disk root_store.base new.root)
       (keeps : ChangesNothing (end_of result) → IsTrue root_disk.tells → root_disk.reads new.root ≡ root_disk.reads old.root) where
     read_repo : HasRead repo_disk old.repo new.repo (Unit {0})

@@ -16,7 +16,7 @@ use Rattle.repo_load.specs.Files.{repository_base}
 use Rattle.cny_laws.specs.declared.failure.Failure.{Failure}
 use Rattle.cny_laws.specs.declared.failure.Failure.TheVariants as failure
 use Rattle.cli_call.specs.Alone.{ActsOnRepository}
-use Rattle.cli_call.specs.Command.{Disks, AreReady, Rest, ReadsSame, StandsFor, HasCause, Goes, Answers, Performs, PerformsFrom, end_of}
+use Rattle.cli_call.specs.Command.{Disks, AreReady, Rest, ReadsSame, StandsFor, HasFailureCause, Goes, AnswersAs, Performs, PerformsFrom, end_of}
 use Rattle.cny_laws.specs.Shown.{IsShown}
 use Rattle.cny_laws.specs.Report.{End}
 use Rattle.cny_laws.specs.State.{State, nothing, Effect, IsNext, Meaning, Takes}
@@ -78,7 +78,7 @@ module _ {T P : Type 0} {root_disk : DiskModel T} {repo_disk : DiskModel P} (roo
     same_on : ReadsSame root_disk repo_disk old new
     same_on = record { root = λ told. (read.root told).same.reads; repo = λ told. (read.repo told).same.reads }
 
-    answers_reading : (s : State) → IsTrue root_disk.tells → IsTrue repo_disk.tells → StandsFor root_disk repo_disk old s → (result : Result (List ℕ) Failure) → AnswersReading root_disk repo_disk m input old result → Answers (m.IsOutcome s input) s s result
+    answers_reading : (s : State) → IsTrue root_disk.tells → IsTrue repo_disk.tells → StandsFor root_disk repo_disk old s → (result : Result (List ℕ) Failure) → AnswersReading root_disk repo_disk m input old result → AnswersAs (m.IsOutcome s input) s s result
     answers_reading s root repo stands (Ok text) h = record { effect = record { change = nothing; out = text }; is = h root repo s stands; leads = refl; bytes = refl }
     answers_reading s root repo stands (Err (failure.Refused r)) h = (h root repo s stands, refl)
     answers_reading s root repo stands (Err (failure.Damaged path)) h = absurd (h root repo s stands)
@@ -87,7 +87,7 @@ module _ {T P : Type 0} {root_disk : DiskModel T} {repo_disk : DiskModel P} (roo
     answers_reading s root repo stands (Err failure.Memory) h = inl refl
     answers_reading s root repo stands _ h = absurd h
 
-    pub performs_reading : (result : Result (List ℕ) Failure) → HasCause root_disk repo_disk old new result → AnswersReading root_disk repo_disk m input old result → Performs root_disk repo_disk m input old new result
+    pub performs_reading : (result : Result (List ℕ) Failure) → HasFailureCause root_disk repo_disk old new result → AnswersReading root_disk repo_disk m input old result → Performs root_disk repo_disk m input old new result
     performs_reading result cause answers = record {
       root_later = read.root_later;
       repo_later = read.repo_later;
@@ -146,7 +146,7 @@ module _ {One Two : Result Effect Refusal → Type 0} (more : (outcome : Result 
   next_more (inl same) = inl same
   next_more (inr takes) = inr (takes_more takes)
 
-  pub answers_more : (s next : State) (result : Result (List ℕ) Failure) → Answers One s next result → Answers Two s next result
+  pub answers_more : (s next : State) (result : Result (List ℕ) Failure) → AnswersAs One s next result → AnswersAs Two s next result
   answers_more s next (Ok text) h = takes_more h
   answers_more s next (Err (failure.Refused r)) h = (more (Err r) h.0, h.1)
   answers_more s next (Err failure.RootFault) h = next_more h

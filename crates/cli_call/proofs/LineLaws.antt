@@ -8,9 +8,9 @@ use Rattle.cny_laws.specs.system-core.tree-disk.Tree.{Name}
 use Rattle.cny_laws.specs.declared.failure.Failure.{Failure}
 use Rattle.cny_laws.specs.declared.failure.Failure.TheVariants as failure
 use Rattle.cli_call.specs.Alone.{PerformsWithin}
-use Rattle.cli_call.specs.Command.{Disks, HasCause, Goes, Answers, end_of}
+use Rattle.cli_call.specs.Command.{Disks, HasFailureCause, Goes, AnswersAs, end_of}
 use Rattle.cny_laws.specs.Report.{ChangesNothing, End, status_of}
-use Rattle.cli_call.specs.Line.{Moment, Writes, Ends, LineCause, RunsLine}
+use Rattle.cli_call.specs.Line.{Moment, WritesAnswer, EndsWriting, LineCause, RunsLine}
 use Rattle.cny_laws.specs.State.{Scope, State, Effect, Meaning, Takes}
 use Rattle.cny_laws.specs.Store.{Store}
 
@@ -31,14 +31,14 @@ abbrev with_out : {T P : Type 0} → Disks T P → SinkState → Moment T P
 with_out d out = record { at = d; out = out }
 
 -- what an error of a command is as the end of a line
-error_ends : (IsOutcome : Result Effect Refusal → Type 0) (s next : State) (before now : SinkState) (e : Failure) → Keeps before.written now.written → Answers IsOutcome s next (Err e) → Ends IsOutcome s next before now (Err e)
+error_ends : (IsOutcome : Result Effect Refusal → Type 0) (s next : State) (before now : SinkState) (e : Failure) → Keeps before.written now.written → AnswersAs IsOutcome s next (Err e) → EndsWriting IsOutcome s next before now (Err e)
 error_ends IsOutcome s next before now (failure.Refused r) keeps h = (h.0, h.1, keeps)
 error_ends IsOutcome s next before now failure.RootFault keeps h = (h, keeps)
 error_ends IsOutcome s next before now failure.RepositoryFault keeps h = (h, keeps)
 error_ends IsOutcome s next before now failure.Memory keeps h = (h, keeps)
 error_ends IsOutcome s next before now _ keeps h = absurd h
 
-error_cause : {T P : Type 0} (root_disk : DiskModel T) (repo_disk : DiskModel P) (old new : Disks T P) (before now : SinkState) (e : Failure) → Keeps before.written now.written → HasCause root_disk repo_disk old new (Err e) → LineCause root_disk repo_disk (with_out old before) (with_out new now) (Err e)
+error_cause : {T P : Type 0} (root_disk : DiskModel T) (repo_disk : DiskModel P) (old new : Disks T P) (before now : SinkState) (e : Failure) → Keeps before.written now.written → HasFailureCause root_disk repo_disk old new (Err e) → LineCause root_disk repo_disk (with_out old before) (with_out new now) (Err e)
 error_cause root_disk repo_disk old new before now (failure.Refused r) keeps h = keeps
 error_cause root_disk repo_disk old new before now failure.Memory keeps h = keeps
 error_cause root_disk repo_disk old new before now (failure.Damaged path) keeps h = (h, keeps)
@@ -50,7 +50,7 @@ module _ {T P : Type 0} {root_disk : DiskModel T} {repo_disk : DiskModel P} {m :
   -- a line ended as its command did, or by the write: what the command did is what the line did
   line_ends : (result : Result (List ℕ) Failure) (end : End) → before.faults ≤ now.faults → LineCause root_disk repo_disk (with_out old before) (with_out new now) end
       → (status_of end ≤ 4 → status_of (end_of result) ≤ 4) → (ChangesNothing end → ChangesNothing (end_of result)) → ((path : Name) → end ≡ Err (failure.Damaged path) → result ≡ Err (failure.Damaged path))
-      → ((s next : State) → Answers (m.IsOutcome s input) s next result → Ends (m.IsOutcome s input) s next before now end)
+      → ((s next : State) → AnswersAs (m.IsOutcome s input) s next result → EndsWriting (m.IsOutcome s input) s next before now end)
       → PerformsWithin root_disk repo_disk scope m input old new result
       → RunsLine root_disk repo_disk scope m input (with_out old before) (with_out new now) end
   line_ends result end later cause fewer nothing named ends done = record {
@@ -111,7 +111,7 @@ module _ {T P : Type 0} {root_disk : DiskModel T} {repo_disk : DiskModel P} {m :
       (λ s next answers. error_ends (m.IsOutcome s input) s next before now e keeps answers) done
 
   -- the whole line
-  pub line_written : (result : Result (List ℕ) Failure) (end : End) → PerformsWithin root_disk repo_disk scope m input old new result → Writes result before now end
+  pub line_written : (result : Result (List ℕ) Failure) (end : End) → PerformsWithin root_disk repo_disk scope m input old new result → WritesAnswer result before now end
       → RunsLine root_disk repo_disk scope m input (with_out old before) (with_out new now) end
   line_written (Err e) end done writes = subst (λ (x : End). RunsLine root_disk repo_disk scope m input (with_out old before) (with_out new now) x) (sym writes.wrote.0) (error_line e writes.later writes.wrote.1 done)
   line_written (Ok text) (Ok x) done writes = line_ends (Ok text) (Ok x) writes.later tt (λ le. le) (λ none. none) (λ path is. absurd (cc is))

@@ -7,7 +7,7 @@ use Rattle.cny_laws.specs.declared.failure.Failure.TheVariants as failure
 use Rattle.cny_laws.specs.declared.opened.Opened.{Opened}
 use Rattle.cli_call.specs.Alone.{PerformsAlone}
 use Rattle.cli_call.proofs.AloneLaws.{AnswersAlone, alone_reading}
-use Rattle.cli_call.specs.Command.{disks, AreReady, HasCause, Performs}
+use Rattle.cli_call.specs.Command.{disks, AreReady, HasFailureCause, Performs}
 use Rattle.cli_call.proofs.CommandLaws.{AnswersReading, AreRead, performs_reading}
 use Rattle.cli_call.proofs.RootLaws.{root_laws}
 use Rattle.cny_laws.specs.State.{Meaning}
@@ -33,5 +33,5 @@ module _ {T P : Type 0} {root_disk : DiskModel T} (repo_disk : DiskModel P) (roo
     are_read : AreRead root_disk repo_disk (disks root repo opened) (disks root' repo opened)
     are_read = record { root_later = later; repo_later = omega arith; root = read; repo = λ told. nothing_done repo_disk_laws repo }
 
-    pub read_performed : HasCause root_disk repo_disk (disks root repo opened) (disks root' repo opened) result → Performs root_disk repo_disk m input (disks root repo opened) (disks root' repo opened) result
+    pub read_performed : HasFailureCause root_disk repo_disk (disks root repo opened) (disks root' repo opened) result → Performs root_disk repo_disk m input (disks root repo opened) (disks root' repo opened) result
     read_performed cause = performs_reading root_disk_laws repo_disk_laws root_laws store_laws m input (disks root repo opened) (disks root' repo opened) ready are_read result cause (on_both result answers)

@@ -9,20 +9,20 @@ use Rattle.cny_laws.specs.system-core.tree-disk.Unfailed.{UnlessFailed}
 use Rattle.repo_load.specs.Files.{repository_base}
 use Rattle.repo_load.specs.State.{RepositoryState}
 use Rattle.cny_laws.specs.declared.failure.Failure.{Failure}
-use Rattle.cli_call.specs.Command.{Disks, Goes, Answers, HasCause, Performs, end_of}
+use Rattle.cli_call.specs.Command.{Disks, Goes, AnswersAs, HasFailureCause, Performs, end_of}
 use Rattle.cny_laws.specs.Report.{ChangesNothing, status_of}
 use Rattle.cny_laws.specs.Shown.{KeepsOthers, IsShown}
 use Rattle.cny_laws.specs.State.{State, Effect, Meaning, Scope}
 use Rattle.cny_laws.specs.Store.{IsSettled, NamesDamaged, RestsAt}
 use Rattle.cny_laws.specs.Stores.{root_store, repository_store}
-use Rattle.cny_laws.specs.Call.{ContentsStay, HasLists, HasOpened, HasTree, HoldsOpened}
+use Rattle.cny_laws.specs.Call.{ContentsStay, HasOpenedLists, HasOpened, HasTree, HoldsOpened}
 
 module _ {T P : Type 0} (root_disk : DiskModel T) (repo_disk : DiskModel P) where
   -- From a state whose root the root's disk stores, whatever repository the state has: the state after it, and what the root went
   -- through.
   pub record PerformsOnRoot (IsOutcome : Result Effect Refusal → Type 0) (s : State) (old new : T) (result : Result (List ℕ) Failure) : Type 0 where
     pub next : State
-    pub answers : Answers IsOutcome s next result
+    pub answers : AnswersAs IsOutcome s next result
     pub stays : next.repository ≡ s.repository
     pub root : Goes root_store root_disk s.root next.root old new (end_of result)
     pub outside : KeepsOthers IsOutcome s (root_disk.reads old) (root_disk.reads new)
@@ -39,7 +39,7 @@ module _ {T P : Type 0} (root_disk : DiskModel T) (repo_disk : DiskModel P) wher
   -- and what the disk went through.
   pub record PerformsOnRepository (IsOutcome : Result Effect Refusal → Type 0) (s : State) (old new : P) (result : Result (List ℕ) Failure) : Type 0 where
     pub next : RepositoryState
-    pub answers : Answers IsOutcome s (record { root = s.root; repository = next }) result
+    pub answers : AnswersAs IsOutcome s (record { root = s.root; repository = next }) result
     pub goes : Goes repository_store repo_disk s.repository next old new (end_of result)
 
   -- THE CLAUSE of the function of a command that works on the repository alone: whatever the root's disk tells or stores, it wasn't
@@ -48,7 +48,7 @@ module _ {T P : Type 0} (root_disk : DiskModel T) (repo_disk : DiskModel P) wher
   pub record ActsOnRepository (m : Meaning) (input : List ℕ) (old new : Disks T P) (result : Result (List ℕ) Failure) : Type 0 where
     pub root : new.root ≡ old.root
     pub later : repo_disk.faults old.repo ≤ repo_disk.faults new.repo
-    pub cause : HasCause root_disk repo_disk old new result
+    pub cause : HasFailureCause root_disk repo_disk old new result
     pub damaged : NamesDamaged repository_store repo_disk new.repo result
     pub rest : status_of (end_of result) ≤ 4 → IsTrue repo_disk.tells → IsSettled repo_disk repository_store.base new.repo
     pub same : ChangesNothing (end_of result) → IsTrue repo_disk.tells → repo_disk.reads new.repo ≡ repo_disk.reads old.repo
@@ -60,20 +60,20 @@ module _ {T P : Type 0} (root_disk : DiskModel T) (repo_disk : DiskModel P) wher
   pub record AnswersByLists (m : Meaning) (input : List ℕ) (old new : Disks T P) (result : Result (List ℕ) Failure) : Type 0 where
     pub root : new.root ≡ old.root
     pub repo : new.repo ≡ old.repo
-    pub answers : (s : State) → HasLists old.opened s → Answers (m.IsOutcome s input) s s result
+    pub answers : (s : State) → HasOpenedLists old.opened s → AnswersAs (m.IsOutcome s input) s s result
 
   -- THE CLAUSE of the function of a command that works on the root's tree and its installed list alone: it answers as on each state that
   -- has them, whatever else the disks store; the root was only read, and the repository's disk wasn't touched.
   pub record AnswersByTree (m : Meaning) (input : List ℕ) (old new : Disks T P) (result : Result (List ℕ) Failure) : Type 0 where
     pub root : Reads root_disk old.root new.root (Unit {0})
     pub repo : new.repo ≡ old.repo
-    pub answers : IsTrue root_disk.tells → (s : State) → HasTree root_disk old.root old.opened s → Answers (m.IsOutcome s input) s s result
+    pub answers : IsTrue root_disk.tells → (s : State) → HasTree root_disk old.root old.opened s → AnswersAs (m.IsOutcome s input) s s result
 
   -- By a state that has what was read when the disks were opened: the state after it, of which, after a status up to 4, the disks hold
   -- the database and the catalogue.
   pub record AnswersOpened (IsOutcome : Result Effect Refusal → Type 0) (s : State) (new : Disks T P) (result : Result (List ℕ) Failure) : Type 0 where
     pub next : State
-    pub answers : Answers IsOutcome s next result
+    pub answers : AnswersAs IsOutcome s next result
     pub holds : status_of (end_of result) ≤ 4 → HoldsOpened root_disk repo_disk new.root new.repo next
 
   -- THE CLAUSE of the function of a command that works on the root's tree and on what was read when the disks were opened, whatever else

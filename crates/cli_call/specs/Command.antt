@@ -34,7 +34,7 @@ abbrev pub disks : {T P : Type 0} → T → P → Opened → Disks T P
 disks root repo opened = record { root = root; repo = repo; opened = opened }
 
 -- a root on which a command begins: the fixed directories stand, it is at rest, and holds this database in format 2
-pub record IsReady {D : Type 0} (disk : DiskModel D) (opened : Opened) (d : D) : Type 0 where
+pub record IsLoadedRoot {D : Type 0} (disk : DiskModel D) (opened : Opened) (d : D) : Type 0 where
   pub fixed : fixed_dirs (disk.reads d) ≡ Ok tt
   pub flag_clear : is_committed root_store.base (disk.reads d) ≡ false
   pub synced : IsSynced disk d
@@ -60,16 +60,16 @@ pub record Goes {D X : Type 0} (store : Store X) (disk : DiskModel D) (x y : X) 
   pub reads : OneOf store x y (disk.reads new)
 
 -- how a command's own function ended, by its outcomes on a state: the state after it, and its bytes
-abbrev pub Answers : (Result Effect Refusal → Type 0) → State → State → Result (List ℕ) Failure → Type 0
-Answers IsOutcome s next (Ok text) = Takes IsOutcome s next (λ bytes. bytes ≡ text)
-Answers IsOutcome s next (Err (failure.Refused r)) = IsOutcome (Err r) × (next ≡ s)
-Answers IsOutcome s next (Err failure.RootFault) = IsNext IsOutcome s next
-Answers IsOutcome s next (Err failure.RepositoryFault) = IsNext IsOutcome s next
-Answers IsOutcome s next (Err failure.Memory) = IsNext IsOutcome s next
-Answers IsOutcome s next (Err failure.Usage) = ⊥
-Answers IsOutcome s next (Err failure.InputFault) = ⊥
-Answers IsOutcome s next (Err failure.OutputFault) = ⊥
-Answers IsOutcome s next (Err (failure.Damaged path)) = ⊥
+abbrev pub AnswersAs : (Result Effect Refusal → Type 0) → State → State → Result (List ℕ) Failure → Type 0
+AnswersAs IsOutcome s next (Ok text) = Takes IsOutcome s next (λ bytes. bytes ≡ text)
+AnswersAs IsOutcome s next (Err (failure.Refused r)) = IsOutcome (Err r) × (next ≡ s)
+AnswersAs IsOutcome s next (Err failure.RootFault) = IsNext IsOutcome s next
+AnswersAs IsOutcome s next (Err failure.RepositoryFault) = IsNext IsOutcome s next
+AnswersAs IsOutcome s next (Err failure.Memory) = IsNext IsOutcome s next
+AnswersAs IsOutcome s next (Err failure.Usage) = ⊥
+AnswersAs IsOutcome s next (Err failure.InputFault) = ⊥
+AnswersAs IsOutcome s next (Err failure.OutputFault) = ⊥
+AnswersAs IsOutcome s next (Err (failure.Damaged path)) = ⊥
 
 module _ {T P : Type 0} (root_disk : DiskModel T) (repo_disk : DiskModel P) where
   -- both disks rest and store the state
@@ -79,7 +79,7 @@ module _ {T P : Type 0} (root_disk : DiskModel T) (repo_disk : DiskModel P) wher
 
   -- a command may begin
   pub record AreReady (m : Disks T P) : Type 0 where
-    pub root : IsTrue root_disk.tells → IsReady root_disk m.opened m.root
+    pub root : IsTrue root_disk.tells → IsLoadedRoot root_disk m.opened m.root
     pub database : IsDatabase Two m.opened.db.installed m.opened.db.oldest m.opened.db.newest
     pub repo : IsTrue repo_disk.tells → IsLoaded repo_disk m.opened m.repo
     pub rules : IsCatalogue m.opened.catalogue
@@ -99,21 +99,21 @@ module _ {T P : Type 0} (root_disk : DiskModel T) (repo_disk : DiskModel P) wher
   HasDamage m path = (IsTrue root_disk.tells → HasDamagedFile root_store (root_disk.reads m.root) path) ⊎ (IsTrue repo_disk.tells → HasDamagedFile repository_store (repo_disk.reads m.repo) path)
 
   -- why it ended so: the count of faults of a disk rose, or a file is damaged
-  abbrev pub HasCause : Disks T P → Disks T P → Result (List ℕ) Failure → Type 0
-  HasCause old new (Ok text) = Unit {0}
-  HasCause old new (Err (failure.Refused r)) = Unit {0}
-  HasCause old new (Err failure.RootFault) = Rose (root_disk.faults old.root) (root_disk.faults new.root)
-  HasCause old new (Err failure.RepositoryFault) = Rose (repo_disk.faults old.repo) (repo_disk.faults new.repo)
-  HasCause old new (Err failure.Memory) = Unit {0}
-  HasCause old new (Err (failure.Damaged path)) = HasDamage new path
-  HasCause old new (Err failure.Usage) = ⊥
-  HasCause old new (Err failure.InputFault) = ⊥
-  HasCause old new (Err failure.OutputFault) = ⊥
+  abbrev pub HasFailureCause : Disks T P → Disks T P → Result (List ℕ) Failure → Type 0
+  HasFailureCause old new (Ok text) = Unit {0}
+  HasFailureCause old new (Err (failure.Refused r)) = Unit {0}
+  HasFailureCause old new (Err failure.RootFault) = Rose (root_disk.faults old.root) (root_disk.faults new.root)
+  HasFailureCause old new (Err failure.RepositoryFault) = Rose (repo_disk.faults old.repo) (repo_disk.faults new.repo)
+  HasFailureCause old new (Err failure.Memory) = Unit {0}
+  HasFailureCause old new (Err (failure.Damaged path)) = HasDamage new path
+  HasFailureCause old new (Err failure.Usage) = ⊥
+  HasFailureCause old new (Err failure.InputFault) = ⊥
+  HasFailureCause old new (Err failure.OutputFault) = ⊥
 
   -- From a state that the disks store: the state after it, and what each disk went through.
   pub record PerformsFrom (IsOutcome : Result Effect Refusal → Type 0) (s : State) (old new : Disks T P) (result : Result (List ℕ) Failure) : Type 0 where
     pub next : State
-    pub answers : Answers IsOutcome s next result
+    pub answers : AnswersAs IsOutcome s next result
     pub apart : OneDisk s next
     pub root : Goes root_store root_disk s.root next.root old.root new.root (end_of result)
     pub repo : Goes repository_store repo_disk s.repository next.repository old.repo new.repo (end_of result)
@@ -124,7 +124,7 @@ module _ {T P : Type 0} (root_disk : DiskModel T) (repo_disk : DiskModel P) wher
   pub record Performs (m : Meaning) (input : List ℕ) (old new : Disks T P) (result : Result (List ℕ) Failure) : Type 0 where
     pub root_later : root_disk.faults old.root ≤ root_disk.faults new.root
     pub repo_later : repo_disk.faults old.repo ≤ repo_disk.faults new.repo
-    pub cause : HasCause old new result
+    pub cause : HasFailureCause old new result
     pub rest : status_of (end_of result) ≤ 4 → Rest new
     pub same : ChangesNothing (end_of result) → ReadsSame old new
     -- the repository's disk is changed below the repository's directory alone, however it ends

@@ -13,7 +13,7 @@ use Rattle.cny_laws.specs.system-core.tree-disk.Unfailed.{UnlessFailed}
 use Rattle.cny_laws.specs.declared.failure.Failure.{Failure}
 use Rattle.cny_laws.specs.declared.failure.Failure.TheVariants as failure
 use Rattle.cny_laws.specs.declared.opened.Opened.{Opened}
-use Rattle.cny_laws.specs.Call.{ContentsStay, HasLists, HasOpened, HasTree, HoldsOpened}
+use Rattle.cny_laws.specs.Call.{ContentsStay, HasOpenedLists, HasOpened, HasTree, HoldsOpened}
 use Rattle.cli_call.specs.Command.{Disks, disks, Goes, StandsFor, Rest, ReadsSame, HasDamage}
 use Rattle.cny_laws.specs.Shown.{KeepsOthers, IsShown}
 use Rattle.cny_laws.specs.Report.{ChangesNothing, End, status_of}
@@ -31,7 +31,7 @@ Wrote (Ok text) before now (Err failure.OutputFault) = Rose before.faults now.fa
 Wrote (Ok text) before now (Err failure.Memory) = Keeps before.written now.written
 Wrote (Ok text) before now (Err _) = ⊥
 
-pub record Writes (answered : Result (List ℕ) Failure) (before now : SinkState) (end : End) : Type 0 where
+pub record WritesAnswer (answered : Result (List ℕ) Failure) (before now : SinkState) (end : End) : Type 0 where
   pub later : before.faults ≤ now.faults
   pub wrote : Wrote answered before now end
 
@@ -46,16 +46,16 @@ abbrev pub moment : {O T P : Type 0} → SinkModel O → T → P → Opened → 
 moment sink root repo opened out = record { at = disks root repo opened; out = sink_state sink out }
 
 -- how it ended, by its outcomes on a state: the state after it, and what was written
-abbrev pub Ends : (Result Effect Refusal → Type 0) → State → State → SinkState → SinkState → End → Type 0
-Ends IsOutcome s next before now (Ok x) = Takes IsOutcome s next (λ bytes. Appends before.written now.written bytes)
-Ends IsOutcome s next before now (Err (failure.Refused r)) = IsOutcome (Err r) × (next ≡ s) × Keeps before.written now.written
-Ends IsOutcome s next before now (Err failure.OutputFault) = Takes IsOutcome s next (λ bytes. AppendsPart before.written now.written bytes)
-Ends IsOutcome s next before now (Err failure.RootFault) = IsNext IsOutcome s next × Keeps before.written now.written
-Ends IsOutcome s next before now (Err failure.RepositoryFault) = IsNext IsOutcome s next × Keeps before.written now.written
-Ends IsOutcome s next before now (Err failure.Memory) = IsNext IsOutcome s next × Keeps before.written now.written
-Ends IsOutcome s next before now (Err failure.Usage) = ⊥
-Ends IsOutcome s next before now (Err failure.InputFault) = ⊥
-Ends IsOutcome s next before now (Err (failure.Damaged path)) = ⊥
+abbrev pub EndsWriting : (Result Effect Refusal → Type 0) → State → State → SinkState → SinkState → End → Type 0
+EndsWriting IsOutcome s next before now (Ok x) = Takes IsOutcome s next (λ bytes. Appends before.written now.written bytes)
+EndsWriting IsOutcome s next before now (Err (failure.Refused r)) = IsOutcome (Err r) × (next ≡ s) × Keeps before.written now.written
+EndsWriting IsOutcome s next before now (Err failure.OutputFault) = Takes IsOutcome s next (λ bytes. AppendsPart before.written now.written bytes)
+EndsWriting IsOutcome s next before now (Err failure.RootFault) = IsNext IsOutcome s next × Keeps before.written now.written
+EndsWriting IsOutcome s next before now (Err failure.RepositoryFault) = IsNext IsOutcome s next × Keeps before.written now.written
+EndsWriting IsOutcome s next before now (Err failure.Memory) = IsNext IsOutcome s next × Keeps before.written now.written
+EndsWriting IsOutcome s next before now (Err failure.Usage) = ⊥
+EndsWriting IsOutcome s next before now (Err failure.InputFault) = ⊥
+EndsWriting IsOutcome s next before now (Err (failure.Damaged path)) = ⊥
 
 module _ {T P : Type 0} (root_disk : DiskModel T) (repo_disk : DiskModel P) where
   -- why it ended so
@@ -73,7 +73,7 @@ module _ {T P : Type 0} (root_disk : DiskModel T) (repo_disk : DiskModel P) wher
   -- From a state that the disks store: the state after it, and what each disk went through.
   pub record LineFrom (IsOutcome : Result Effect Refusal → Type 0) (s : State) (old new : Moment T P) (end : End) : Type 0 where
     pub next : State
-    pub ends : Ends IsOutcome s next old.out new.out end
+    pub ends : EndsWriting IsOutcome s next old.out new.out end
     pub apart : OneDisk s next
     pub root : Goes root_store root_disk s.root next.root old.at.root new.at.root end
     pub repo : Goes repository_store repo_disk s.repository next.repository old.at.repo new.at.repo end
@@ -83,7 +83,7 @@ module _ {T P : Type 0} (root_disk : DiskModel T) (repo_disk : DiskModel P) wher
   -- The same of the root alone, from a state whose root its disk stores, whatever repository the state has.
   pub record LineOnRoot (IsOutcome : Result Effect Refusal → Type 0) (s : State) (old new : Moment T P) (end : End) : Type 0 where
     pub next : State
-    pub ends : Ends IsOutcome s next old.out new.out end
+    pub ends : EndsWriting IsOutcome s next old.out new.out end
     pub stays : next.repository ≡ s.repository
     pub root : Goes root_store root_disk s.root next.root old.at.root new.at.root end
     pub outside : KeepsOthers IsOutcome s (root_disk.reads old.at.root) (root_disk.reads new.at.root)
@@ -97,7 +97,7 @@ module _ {T P : Type 0} (root_disk : DiskModel T) (repo_disk : DiskModel P) wher
   -- The same of the repository alone, from a state whose repository its disk stores, whatever root the state has.
   pub record LineOnRepository (IsOutcome : Result Effect Refusal → Type 0) (s : State) (old new : Moment T P) (end : End) : Type 0 where
     pub next : RepositoryState
-    pub ends : Ends IsOutcome s (record { root = s.root; repository = next }) old.out new.out end
+    pub ends : EndsWriting IsOutcome s (record { root = s.root; repository = next }) old.out new.out end
     pub repo : Goes repository_store repo_disk s.repository next old.at.repo new.at.repo end
 
   pub record LineApart (m : Meaning) (input : List ℕ) (old new : Moment T P) (end : End) : Type 0 where
@@ -109,16 +109,16 @@ module _ {T P : Type 0} (root_disk : DiskModel T) (repo_disk : DiskModel P) wher
   pub record LineByLists (m : Meaning) (input : List ℕ) (old new : Moment T P) (end : End) : Type 0 where
     pub root : new.at.root ≡ old.at.root
     pub repo : new.at.repo ≡ old.at.repo
-    pub ends : (s : State) → HasLists old.at.opened s → Ends (m.IsOutcome s input) s s old.out new.out end
+    pub ends : (s : State) → HasOpenedLists old.at.opened s → EndsWriting (m.IsOutcome s input) s s old.out new.out end
 
   -- By the root's tree and its installed list alone.
   abbrev pub LineByTree : Meaning → List ℕ → Moment T P → Moment T P → End → Type 0
-  LineByTree m input old new end = IsTrue root_disk.tells → (s : State) → HasTree root_disk old.at.root old.at.opened s → Ends (m.IsOutcome s input) s s old.out new.out end
+  LineByTree m input old new end = IsTrue root_disk.tells → (s : State) → HasTree root_disk old.at.root old.at.opened s → EndsWriting (m.IsOutcome s input) s s old.out new.out end
 
   -- By the root's tree and what was read when the disks were opened.
   pub record LineByOpened (IsOutcome : Result Effect Refusal → Type 0) (s : State) (old new : Moment T P) (end : End) : Type 0 where
     pub next : State
-    pub ends : Ends IsOutcome s next old.out new.out end
+    pub ends : EndsWriting IsOutcome s next old.out new.out end
     pub holds : status_of end ≤ 4 → HoldsOpened root_disk repo_disk new.at.root new.at.repo next
 
   -- A command of this meaning, which works on so much, was performed with this input, what it answered was written, and it

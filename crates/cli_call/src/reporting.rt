@@ -3,7 +3,7 @@ ghost use Rattle.std.specs.Prelude.{◌≡◌, ◌⊎◌, ◌++◌, IfOk, MatchB
 ghost use Rattle.std.specs.Io.KnownBytes.{Appends, Keeps};
 ghost use Rattle.cny_laws.specs.system-core.cny-base.Count.{Rose};
 ghost use Rattle.cny_flow.specs.Flow.{sink_state};
-ghost use Rattle.cny_laws.specs.Report.{failure_text, status_of, IsAnswer, Reports};
+ghost use Rattle.cny_laws.specs.Report.{failure_text, status_of, MustBeTold, Reports};
 
 use crate::texts::joined;
 use cny_flow::{FlowFault, Sink};
@@ -55,7 +55,7 @@ fn status(failure: &Failure) -> u8
 
 // Whether the line may not be missing: that of a refusal or a usage error.
 fn is_answer(failure: &Failure) -> bool
-    ensures { MatchBool result (IsAnswer failure.now) (IsAnswer failure.now → ⊥) }
+    ensures { MatchBool result (MustBeTold failure.now) (MustBeTold failure.now → ⊥) }
 {
     matches!(failure, Failure::Refused(_) | Failure::Usage)
 }

@@ -1,6 +1,6 @@
 //! What a command answers, written.
 ghost use Rattle.cny_flow.specs.Flow.{sink_state};
-ghost use Rattle.cli_call.specs.Line.{Writes};
+ghost use Rattle.cli_call.specs.Line.{WritesAnswer};
 
 use cny_flow::{FlowFault, Sink};
 use cny_laws::Failure;
@@ -8,7 +8,7 @@ use cny_laws::system_core::cny_base::Bytes;
 
 /// Writes what a command answered, by one call of the sink; where that is no byte, or the command failed, by none.
 pub fn write_answer<O: Sink>(answered: Result<Bytes, Failure>, out: &mut O) -> Result<(), Failure>
-    ensures { Writes answered (sink_state O.sink out.old) (sink_state O.sink out.new) result }
+    ensures { WritesAnswer answered (sink_state O.sink out.old) (sink_state O.sink out.new) result }
 {
     let bytes = match answered {
         Ok(bytes) => bytes,

@@ -35,13 +35,13 @@ abbrev pub call_state : {I O T P : Type 0} → SourceModel I → SinkModel O →
 call_state source sink input out root repo = record { input = source_state source input; root = root; repo = repo; out = sink_state sink out }
 
 -- the state has the lists that were read when the disks were opened: the installed troves, and those of the catalogue
-pub record HasLists (opened : Opened) (s : State) : Type 0 where
+pub record HasOpenedLists (opened : Opened) (s : State) : Type 0 where
   pub installed : s.root.installed ≡ opened.db.installed
   pub committed : troves_of s.repository.commits ≡ opened.catalogue.troves
 
 -- and its tree is what the root reads outside its private directory
 pub record HasTree {T : Type 0} (root_disk : DiskModel T) (root : T) (opened : Opened) (s : State) : Type 0 where
-  pub lists : HasLists opened s
+  pub lists : HasOpenedLists opened s
   pub outer : AgreesOutside is_reserved (root_disk.reads root) (tree_of s.root)
 
 -- the same of a state whose root keeps its rules, with all that was read when the disks were opened: the database and the catalogue

@@ -37,10 +37,10 @@ error_line (Ok _) = []
 error_line (Err e) = failure_text e ++ 10 ∷ []
 
 -- a failure whose line may not be missing, also for want of memory
-abbrev pub IsAnswer : Failure → Type 0
-IsAnswer failure.Usage = Unit
-IsAnswer (failure.Refused r) = Unit
-IsAnswer _ = ⊥
+abbrev pub MustBeTold : Failure → Type 0
+MustBeTold failure.Usage = Unit
+MustBeTold (failure.Refused r) = Unit
+MustBeTold _ = ⊥
 
 -- the ends before which nothing was changed
 abbrev pub ChangesNothing : End → Type 0
@@ -53,9 +53,9 @@ ChangesNothing _ = ⊥
 -- none may have been written, for want of memory.
 pub record Tells (e : Failure) (before after : SinkState) (status : ℕ) : Type 0 where
   pub answered : status ≡ status_of (Err e)
-  pub line : Rose before.faults after.faults ⊎ Appends before.written after.written (error_line (Err e)) ⊎ ((IsAnswer e → ⊥) × Keeps before.written after.written)
+  pub line : Rose before.faults after.faults ⊎ Appends before.written after.written (error_line (Err e)) ⊎ ((MustBeTold e → ⊥) × Keeps before.written after.written)
 
 -- After Ok nothing is written. Want of memory for a line that may not be missing ends the call in want of memory.
 abbrev pub Reports : End → SinkState → SinkState → ℕ → Type 0
 Reports (Ok _) before after status = (status ≡ 0) × (after ≡ before)
-Reports (Err e) before after status = Tells e before after status ⊎ (IsAnswer e × Tells failure.Memory before after status)
+Reports (Err e) before after status = Tells e before after status ⊎ (MustBeTold e × Tells failure.Memory before after status)

@@ -20,12 +20,12 @@ pub record LeavesName (s t : RootState) (q : Name) : Type 0 where
   pub added : IsNoPath t.stack s.stack q
 
 -- no effect that is an outcome touches this name of the root
-abbrev pub IsLeft : (Result Effect Refusal → Type 0) → State → Name → Type 0
-IsLeft IsOutcome s q = (e : Effect) → IsOutcome (Ok e) → LeavesName s.root (after s e.change).root q
+abbrev pub IsUntouched : (Result Effect Refusal → Type 0) → State → Name → Type 0
+IsUntouched IsOutcome s q = (e : Effect) → IsOutcome (Ok e) → LeavesName s.root (after s e.change).root q
 
 -- Each name of the root outside its private directory that no such effect touches reads as before, however the command ends.
 abbrev pub KeepsOthers : (Result Effect Refusal → Type 0) → State → Tree → Tree → Type 0
-KeepsOthers IsOutcome s before now = (q : Name) → is_reserved q ≡ false → IsLeft IsOutcome s q → get now q ≡ get before q
+KeepsOthers IsOutcome s before now = (q : Name) → is_reserved q ≡ false → IsUntouched IsOutcome s q → get now q ≡ get before q
 
 -- What readers of the root see: the tree before; or, at each name outside its private directory, the node of the state, that of an
 -- effect which is an outcome, or nothing where just one of the two is a directory.

@@ -18,7 +18,7 @@ use Rattle.repo_load.specs.Files.{repository_base}
 use Rattle.repo_load.specs.State.{RepositoryState}
 use Rattle.cny_laws.specs.declared.failure.Failure.{Failure}
 use Rattle.cny_laws.specs.declared.opened.Opened.{Opened}
-use Rattle.cny_laws.specs.Call.{ContentsStay, HasLists, HasOpened, HasTree, HoldsOpened, CallState, AreOpened, NotOpened, OpensRoot, StopsForRepository, StopsForRoot}
+use Rattle.cny_laws.specs.Call.{ContentsStay, HasOpenedLists, HasOpened, HasTree, HoldsOpened, CallState, AreOpened, NotOpened, OpensRoot, StopsForRepository, StopsForRoot}
 use Rattle.cny_laws.specs.Shown.{KeepsOthers, IsShown}
 use Rattle.cny_laws.specs.Report.{ChangesNothing, End, Reports, status_of}
 use Rattle.system_core.specs.FixedDirs.{fixed_dirs}
@@ -126,7 +126,7 @@ module _ {T P : Type 0} (root_disk : DiskModel T) (repo_disk : DiskModel P) wher
 
   -- Each disk that is told recovers to what it recovered to; where its commit flag wasn't set, its tree is as it was, but that a root
   -- of format 1 was brought to format 2.
-  pub record AreKept (before now : CallState T P) : Type 0 where
+  pub record DisksAreKept (before now : CallState T P) : Type 0 where
     pub root : IsTrue root_disk.tells → IsRootKept (root_disk.reads before.root) (root_disk.reads now.root)
     pub repo : IsTrue repo_disk.tells → IsKept repository_store.base (repo_disk.reads before.repo) (repo_disk.reads now.repo)
 
@@ -185,14 +185,14 @@ module _ {T P : Type 0} (root_disk : DiskModel T) (repo_disk : DiskModel P) wher
     -- state that has them, whatever else the disks tell or store. Where the root is told, so does one that works on its tree and its installed
     -- list alone; and, where the repository is told too, unless it works on the root alone, one that works on the root's tree and on all that
     -- was read then, and leaves what stands under the names of contents.
-    pub by_lists : scope.of_lists ≡ true → (now.root ≡ root) × (now.repo ≡ repo) × ((s : State) → HasLists opened s → CallEnds (OwnOutcome m s input) s s before.out now.out end)
+    pub by_lists : scope.of_lists ≡ true → (now.root ≡ root) × (now.repo ≡ repo) × ((s : State) → HasOpenedLists opened s → CallEnds (OwnOutcome m s input) s s before.out now.out end)
     pub by_tree : scope.of_tree ≡ true → IsTrue root_disk.tells → (s : State) → HasTree root_disk root opened s → CallEnds (OwnOutcome m s input) s s before.out now.out end
     pub by_opened : scope.of_opened ≡ true → IsTrue root_disk.tells → (scope.of_root ≡ false → IsTrue repo_disk.tells) → (s : State) → HasOpened root_disk root opened s → EndsByOpened m input s before now end
     pub contents_stay : scope.of_opened ≡ true → ContentsStay repo_disk repo now.repo
 
   -- The disks weren't opened, and nothing else was done; or they were.
-  abbrev pub Reaches : Scope → Meaning → List ℕ → CallState T P → CallState T P → End → Type 0
-  Reaches scope m input before now end = NotOpened root_disk repo_disk before now end ⊎ WasOpened scope m input before now end
+  abbrev pub CallReaches : Scope → Meaning → List ℕ → CallState T P → CallState T P → End → Type 0
+  CallReaches scope m input before now end = NotOpened root_disk repo_disk before now end ⊎ WasOpened scope m input before now end
 
   -- ---- why it ended so, and what stands then, whatever the disks store
 
@@ -218,7 +218,7 @@ module _ {T P : Type 0} (root_disk : DiskModel T) (repo_disk : DiskModel P) wher
     pub later : AreLater before now
     pub cause : CallCause before now end
     -- where it was refused, the input failed or a file is damaged, both disks recover to what they recovered to
-    pub kept : ChangesNothing end → AreKept before now
+    pub kept : ChangesNothing end → DisksAreKept before now
     -- A disk that recovers to no tree is left as it stands. A root of which a fixed directory isn't one is only read, and nothing else is done.
     pub root_untouched : IsTrue root_disk.tells → RecoversToNone root_store.base (root_disk.reads before.root) → Confined root_disk (Among no_name) before.root now.root
     pub repo_untouched : IsTrue repo_disk.tells → RecoversToNone repository_store.base (repo_disk.reads before.repo) → Confined repo_disk (Among no_name) before.repo now.repo
@@ -358,7 +358,7 @@ module _ {T P : Type 0} (root_disk : DiskModel T) (repo_disk : DiskModel P) wher
     pub unread : m.takes_input ≡ false → now.input ≡ before.input
     pub read_to_end : end ≡ Ok tt → m.takes_input ≡ true → IfSome before.input.left (λ input. now.input.left ≡ Some [])
     -- how far it came, why it ended so, and what stands then
-    pub reaches : Reaches scope m input before now end
+    pub reaches : CallReaches scope m input before now end
     pub facts : CallFacts before now end
     pub log : MeetsLog m input before now end
     -- Its outcome, where both disks, the root alone, or the repository alone recover to a state. (That of a command that works on less

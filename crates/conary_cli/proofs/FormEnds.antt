@@ -26,7 +26,7 @@ use Rattle.cli_call.specs.cny-laws.declared.failure.Failure.TheVariants as failu
 use Rattle.conary_cli.specs.declared.words.Command.{Command}
 use Rattle.conary_cli.specs.declared.words.Command.TheVariants as command
 use Rattle.conary_cli.specs.Commands.{meaning, is_of_root, scope_of}
-use Rattle.conary_cli.specs.FormDecides.{HasEnd, DecidesForm, DecidesSet, DecidesUpdate, FormDecides, IsAnswered, IsAnsweredOnRoot}
+use Rattle.conary_cli.specs.FormDecides.{HasEnd, DecidesForm, DecidesSet, DecidesUpdate, FormDecides, IsCallAnswered, IsCallAnsweredOnRoot}
 use Rattle.root_commands.specs.Install.{first_reserved, InstallsMade, UnlessReserved, install}
 use Rattle.root_commands.specs.Update.{UpdatesBy, update_input}
 use Rattle.cli_call.specs.ManifestInput.{OfManifest}
@@ -89,7 +89,7 @@ shown_as laws Ended input (Err r) is ended = record {
 module _ {T P : Type 0} (root_disk : DiskModel T) (repo_disk : DiskModel P) (before now : CallState T P) where
   -- an outcome by which the call was done or refused
   answered : (IsOutcome : Result Effect Refusal → Type 0) (s next : State) (end : End) → status_of end ≤ 2 → CallEnds IsOutcome s next before.out now.out end → (HasEffect end → RestBoth root_disk repo_disk now next)
-      → HasEnd IsOutcome (λ o. IsAnswered root_disk repo_disk s o before now end)
+      → HasEnd IsOutcome (λ o. IsCallAnswered root_disk repo_disk s o before now end)
   answered IsOutcome s next (Ok x) small t rests = (Ok t.effect, t.is, record { ended = refl; rests = subst (λ (y : State). RestBoth root_disk repo_disk now y) t.leads (rests tt); out = t.bytes })
   answered IsOutcome s next (Err (failure.Refused r)) small h rests = (Err r, h.0, refl)
   answered IsOutcome s next (Err failure.InputFault) small h rests = absurd (omega (arith, small))
@@ -101,7 +101,7 @@ module _ {T P : Type 0} (root_disk : DiskModel T) (repo_disk : DiskModel P) (bef
 
   -- the same of the root alone
   answered_on_root : (IsOutcome : Result Effect Refusal → Type 0) (s next : State) (end : End) → status_of end ≤ 2 → CallEnds IsOutcome s next before.out now.out end → (HasEffect end → RestsAt root_store root_disk now.root next.root) → next.repository ≡ s.repository
-      → HasEnd IsOutcome (λ o. IsAnsweredOnRoot root_disk repo_disk s o before now end)
+      → HasEnd IsOutcome (λ o. IsCallAnsweredOnRoot root_disk repo_disk s o before now end)
   answered_on_root IsOutcome s next (Ok x) small t rests stays = (
     Ok t.effect,
     t.is,
@@ -135,10 +135,10 @@ module _ {T P : Type 0} (root_disk : DiskModel T) (repo_disk : DiskModel P) (bef
 
   module _ (c : Command) (err err' : SinkState) (status : ℕ) (call : IsCall root_disk repo_disk (scope_of c) (meaning c) before now err err' status) where
     abbrev Answered : State → Result Effect Refusal → Type 0
-    Answered s = λ o. IsAnswered root_disk repo_disk s o before now call.end
+    Answered s = λ o. IsCallAnswered root_disk repo_disk s o before now call.end
 
     abbrev OnRoot : State → Result Effect Refusal → Type 0
-    OnRoot s = λ o. IsAnsweredOnRoot root_disk repo_disk s o before now call.end
+    OnRoot s = λ o. IsCallAnsweredOnRoot root_disk repo_disk s o before now call.end
 
     abbrev Ends : State → Command → Type 0
     Ends s d = HasCommandEnd s call.input (Answered s) d

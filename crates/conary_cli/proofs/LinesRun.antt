@@ -11,11 +11,11 @@ use Rattle.cli_call.proofs.tree-disk.ConfinedLaws.{confined_start, confined_then
 use Rattle.cli_call.proofs.tree-disk.Moments.{rose_before}
 use Rattle.repo_load.specs.Files.{repository_base}
 use Rattle.cli_call.specs.Command.{AreReady, Goes, HasDamage, Rest, StandsFor}
-use Rattle.cli_call.specs.Line.{Ends, Moment, LineCause}
+use Rattle.cli_call.specs.Line.{EndsWriting, Moment, LineCause}
 use Rattle.cli_call.specs.cny-laws.declared.failure.Failure.{Failure}
 use Rattle.cli_call.specs.cny-laws.declared.failure.Failure.TheVariants as failure
 use Rattle.cli_call.specs.cny-laws.Reading.{given}
-use Rattle.cli_call.specs.cny-laws.Report.{End, IsAnswer, status_of}
+use Rattle.cli_call.specs.cny-laws.Report.{End, MustBeTold, status_of}
 use Rattle.cli_call.specs.cny-laws.State.{State, Effect, Meaning, OneDisk, Then}
 use Rattle.cli_call.specs.cny-laws.Store.{IsStore, OneOf, Recovers, RestsAt}
 use Rattle.cli_call.specs.cny-laws.Stores.{root_store, repository_store}
@@ -26,7 +26,7 @@ use Rattle.cli_call.proofs.StoreLaws.{nothing_done, rest_lives, rest_reads}
 use Rattle.conary_cli.specs.declared.words.Command.{Command}
 use Rattle.conary_cli.specs.Commands.{meaning}
 use Rattle.conary_cli.specs.Lines.{CallLine, EndsOne, LineOutcome, LinesEnd, RunsLines, RunsOf, RunsOne, heard}
-use Rattle.conary_cli.specs.Lives.{LiveBoth, LiveStep, before_last, last_of}
+use Rattle.conary_cli.specs.Lives.{LiveBoth, LiveStep, before_last, last_state}
 use Rattle.conary_cli.specs.Words.{AreWords, IsOnly}
 use Rattle.conary_cli.proofs.Living.{live_first, repo_reads_on, root_reads_on}
 
@@ -37,7 +37,7 @@ heard_takes true m = refl
 heard_takes false m = refl
 
 module _ {One Two : Result Effect Refusal → Type 0} (more : (outcome : Result Effect Refusal) → One outcome → Two outcome) where
-  pub ends_more : (s next : State) (before now : SinkState) (end : End) → Ends One s next before now end → Ends Two s next before now end
+  pub ends_more : (s next : State) (before now : SinkState) (end : End) → EndsWriting One s next before now end → EndsWriting Two s next before now end
   ends_more s next before now (Ok x) h = takes_more more h
   ends_more s next before now (Err (failure.Refused r)) h = (more (Err r) h.0, h.1, h.2)
   ends_more s next before now (Err failure.OutputFault) h = takes_more more h
@@ -72,10 +72,10 @@ module _ {T P : Type 0} (root_disk : DiskModel T) (repo_disk : DiskModel P) wher
     pub states : List State
     pub ends : LinesEnd lines s states old.out new.out end
     pub lives : LiveBoth root_disk repo_disk s states old.at.root new.at.root old.at.repo new.at.repo
-    pub root_rests : status_of end ≤ 4 → RestsAt root_store root_disk new.at.root (last_of s states).root
-    pub repo_rests : status_of end ≤ 4 → RestsAt repository_store repo_disk new.at.repo (last_of s states).repository
-    pub root_reads : OneOf root_store (before_last s states).root (last_of s states).root (root_disk.reads new.at.root)
-    pub repo_reads : OneOf repository_store (before_last s states).repository (last_of s states).repository (repo_disk.reads new.at.repo)
+    pub root_rests : status_of end ≤ 4 → RestsAt root_store root_disk new.at.root (last_state s states).root
+    pub repo_rests : status_of end ≤ 4 → RestsAt repository_store repo_disk new.at.repo (last_state s states).repository
+    pub root_reads : OneOf root_store (before_last s states).root (last_state s states).root (root_disk.reads new.at.root)
+    pub repo_reads : OneOf repository_store (before_last s states).repository (last_state s states).repository (repo_disk.reads new.at.repo)
 
 module _ {T P : Type 0} {root_disk : DiskModel T} {repo_disk : DiskModel P} (root_disk_laws : IsDisk root_disk) (repo_disk_laws : IsDisk repo_disk) (repo_laws : IsStore repository_store) (root_told : IsTrue root_disk.tells) (repo_told : IsTrue repo_disk.tells) where
   -- nothing was done
@@ -94,7 +94,7 @@ module _ {T P : Type 0} {root_disk : DiskModel T} {repo_disk : DiskModel P} (roo
 
     words_from : (expected : Result Command Failure) → IsOnly (AreWords l.line.words) expected → RunsOf root_disk repo_disk expected l old new end → OneFrom root_disk repo_disk l s old new end
     words_from (Ok c) are (inl refuses) = nothing_from l s old new end refuses.same stands
-        (inl (Ok c, are, (subst (λ (x : End). Ends (LineOutcome (Ok c) l s) s s old.out new.out x) (sym refuses.is) (refused_outcome c l s refuses.refusal refuses.refuses, refl, keeps_still old.out new.out (same_out refuses.same)), λ off. same_out refuses.same)))
+        (inl (Ok c, are, (subst (λ (x : End). EndsWriting (LineOutcome (Ok c) l s) s s old.out new.out x) (sym refuses.is) (refused_outcome c l s refuses.refusal refuses.refuses, refl, keeps_still old.out new.out (same_out refuses.same)), λ off. same_out refuses.same)))
     words_from (Ok c) are (inr runs) =
         let f = runs.runs.told root_told repo_told s stands in
         record {
@@ -181,7 +181,7 @@ module _ {T P : Type 0} (root_disk : DiskModel T) (repo_disk : DiskModel P) wher
   line_cause old new (Err failure.Memory) h = tt
   line_cause old new (Err (failure.Damaged path)) h = h.0
 
-  answer_cause : (at : Moment T P) (e : Failure) → IsAnswer e → MomentCause root_disk repo_disk at at (Err e)
+  answer_cause : (at : Moment T P) (e : Failure) → MustBeTold e → MomentCause root_disk repo_disk at at (Err e)
   answer_cause at failure.Usage is = tt
   answer_cause at (failure.Refused r) is = tt
   answer_cause at failure.InputFault is = absurd is

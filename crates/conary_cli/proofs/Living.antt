@@ -6,7 +6,7 @@ use Rattle.cli_call.proofs.tree-disk.ConfinedLaws.{leaves_then, leaves_weaker}
 use Rattle.cli_call.specs.cny-laws.State.{State}
 use Rattle.cli_call.specs.cny-laws.Store.{OneOf}
 use Rattle.cli_call.specs.cny-laws.Stores.{root_store, repository_store}
-use Rattle.conary_cli.specs.Lives.{LiveBoth, LiveStep, before_last, last_of}
+use Rattle.conary_cli.specs.Lives.{LiveBoth, LiveStep, before_last, last_state}
 
 -- a step from a state to the next, and a list that begins with that
 pub live_first : {T P : Type 0} (root_disk : DiskModel T) (repo_disk : DiskModel P) (s t : State) (more : List State) (root mid root' : T) (repo far repo' : P)
@@ -19,11 +19,11 @@ live_first root_disk repo_disk s t [] root mid root' repo far repo' first then =
 live_first root_disk repo_disk s t (u ∷ more) root mid root' repo far repo' first then = (mid, far, first, then)
 
 -- one of the last two states, where the second is the first of those behind it
-pub root_reads_on : (s next : State) (states : List State) (tree : Tree) → OneOf root_store (before_last next states).root (last_of next states).root tree → OneOf root_store (before_last s (next ∷ states)).root (last_of next states).root tree
+pub root_reads_on : (s next : State) (states : List State) (tree : Tree) → OneOf root_store (before_last next states).root (last_state next states).root tree → OneOf root_store (before_last s (next ∷ states)).root (last_state next states).root tree
 root_reads_on s next [] tree h = inr (⊎_elim (λ a. a) (λ b. b) h)
 root_reads_on s next (t ∷ states) tree h = h
 
-pub repo_reads_on : (s next : State) (states : List State) (tree : Tree) → OneOf repository_store (before_last next states).repository (last_of next states).repository tree
-    → OneOf repository_store (before_last s (next ∷ states)).repository (last_of next states).repository tree
+pub repo_reads_on : (s next : State) (states : List State) (tree : Tree) → OneOf repository_store (before_last next states).repository (last_state next states).repository tree
+    → OneOf repository_store (before_last s (next ∷ states)).repository (last_state next states).repository tree
 repo_reads_on s next [] tree h = inr (⊎_elim (λ a. a) (λ b. b) h)
 repo_reads_on s next (t ∷ states) tree h = h

@@ -17,7 +17,7 @@ use Rattle.cli_call.proofs.system-core.Restored.{left_alone, put_into}
 use Rattle.cli_call.proofs.system-core.Sequence.{after_list, after_tree, after_whole}
 use Rattle.cli_call.specs.system-core.FixedDirs.{fixed_dirs}
 use Rattle.root_commands.specs.RollingBack.{TakesBackTo, roll_back, take_back}
-use Rattle.cli_call.specs.Line.{Ends, Moment, RunsLine}
+use Rattle.cli_call.specs.Line.{EndsWriting, Moment, RunsLine}
 use Rattle.cli_call.specs.cny-laws.Call.{CallState}
 use Rattle.cli_call.specs.cny-laws.Reading.{given}
 use Rattle.cli_call.specs.cny-laws.State.{on_root, Change, Effect, Meaning, State, Then, after, tree_of}
@@ -29,7 +29,7 @@ use Rattle.cli_call.specs.cny-laws.WholeCall.{CallEnds, HasEffect, IsCall, Outco
 use Rattle.conary_cli.specs.declared.words.Command.{Command}
 use Rattle.conary_cli.specs.Commands.{is_of_root, meaning, scope_of}
 use Rattle.conary_cli.specs.Lines.{heard, unheard}
-use Rattle.conary_cli.specs.Restores.{LineRestores, RestoresBy, RestoresNewest, RestoresTo, RollbackRestores}
+use Rattle.conary_cli.specs.Restores.{LineRestores, RestoresBy, RestoresNewest, RestoresDownTo, RollbackRestores}
 use Rattle.cli_call.specs.system-core.Job.{db_of}
 use Rattle.cny_version.proofs.cny-base.Lists.{left_all as all_front, all_at as all_middle, nothing_in}
 use Rattle.cli_call.proofs.system-core.Systems.{managed_so as managed}
@@ -112,7 +112,7 @@ module _ {T : Type 0} (root_disk : DiskModel T) (now : T) (end : End) where
     ended_by IsOutcome next _ out out' is small h rests = absurd h
 
     -- the same of a command over disks that are open
-    pub line_ended_by : (IsOutcome : Result Effect Refusal → Type 0) (next : State) (how : End) (out out' : SinkState) → end ≡ how → status_of how ≤ 2 → Ends IsOutcome s next out out' how → RestsAt root_store root_disk now next.root → HasEnd IsOutcome
+    pub line_ended_by : (IsOutcome : Result Effect Refusal → Type 0) (next : State) (how : End) (out out' : SinkState) → end ≡ how → status_of how ≤ 2 → EndsWriting IsOutcome s next out out' how → RestsAt root_store root_disk now next.root → HasEnd IsOutcome
     line_ended_by IsOutcome next (Ok x) out out' is small t rests = (Ok t.effect, t.is, (is, subst (λ (y : State). RestsAt root_store root_disk now y.root) t.leads rests))
     line_ended_by IsOutcome next (Err (failure.Refused r)) out out' is small h rests = (Err r, h.0, is)
     line_ended_by IsOutcome next (Err failure.OutputFault) out out' is small h rests = absurd (omega (arith, small))
@@ -125,7 +125,7 @@ module _ {T : Type 0} (root_disk : DiskModel T) (now : T) (end : End) where
     rests_at e t is ended = subst (λ (c : Change). RestsAt root_store root_disk now (after s c).root) is ended.1
 
     module _ (system : IsSystemState s.root) where
-      all_ended : (number : ℕ) (o : Result Effect Refusal) → TakesBackTo number s.root o → EndedBy o → RestoresTo root_disk number s.root now end
+      all_ended : (number : ℕ) (o : Result Effect Refusal) → TakesBackTo number s.root o → EndedBy o → RestoresDownTo root_disk number s.root now end
       all_ended number (Ok e) is ended has unedited =
           let rests = rests_at e (rolled_back_to number s.root) is.change ended in
           inl (record { ended = ended.0; next = rolled_back_to number s.root; rests = rests; restored = all_restored_to s.root system number (root_disk.reads now) rests.stored })

@@ -8,6 +8,7 @@ use Rattle.cli_call.specs.Alone.{AnswersByLists, PerformsAlone, PerformsWithin}
 use Rattle.cli_call.specs.Command.{AreReady, Performs, disks}
 use Rattle.cli_call.specs.Line.{Moment, RunsLine}
 use Rattle.cli_call.specs.Runs.{RunsCall, after_opening}
+use Rattle.cli_call.proofs.BlockedEnds.{as_pair, as_record}
 use Rattle.cli_call.proofs.CallLaws.{opened_ready, whole_call}
 use Rattle.cli_call.proofs.CommandLaws.{none_read, performs_reading}
 use Rattle.cli_call.proofs.InputLaws.{read_input_of}
@@ -23,12 +24,9 @@ use Rattle.cli_call.specs.cny-laws.Call.{AreOpened, CallState}
 use Rattle.cli_call.specs.cny-laws.Reading.{ReadsGiven}
 use Rattle.cli_call.specs.cny-laws.Report.{End, Reports}
 use Rattle.cli_call.specs.cny-laws.Edits.{all_edited, edits_beside, with_tree}
-use Rattle.cli_call.specs.cny-laws.State.{RootState}
-use Rattle.cli_call.specs.cny-laws.Store.{IsStore, Recovers}
-use Rattle.cli_call.specs.cny-laws.Stores.{repository_store, root_store}
+use Rattle.cli_call.specs.cny-laws.Store.{IsStore}
+use Rattle.cli_call.specs.cny-laws.Stores.{repository_store}
 use Rattle.cli_call.specs.cny-laws.WholeCall.{FromStates, after_edits}
-use Rattle.cli_call.specs.local-db.Stores.{RecoversToSystem}
-use Rattle.cli_call.specs.tree-disk.Tree.{Tree}
 use Rattle.cli_call.specs.tree-journal.CanBePut.{AllCanBePut}
 use Rattle.cli_call.proofs.cny-laws.SeveralEdits.{all_kept, kept_beside}
 use Rattle.conary_cli.specs.RunsSeveral.{GoesOnLines, MakesNone, ReadsNone, RunsSeveral}
@@ -69,13 +67,6 @@ module _ {T P : Type 0} {root_disk : DiskModel T} {repo_disk : DiskModel P} (roo
 
   pub none_made : (e : Failure) → MakesNone AreLines bytes e → RunsLine root_disk repo_disk of_input (before_lines takes AreLines) bytes at at (Err e)
   none_made e none = line_written at.out at.out of_input (Err e) (Err e) (none_within e none) (record { later = omega arith; wrote = (refl, refl) })
-
--- a system to which a root recovers
-as_pair : (x : Tree) (s : RootState) → Recovers root_store x s → RecoversToSystem x s
-as_pair x s rec = (rec.tree, rec.recovers, rec.stored)
-
-as_record : (x y : Tree) (s : RootState) → y ≡ x → RecoversToSystem x s → Recovers root_store y s
-as_record x y s is r = subst (λ (t : Tree). Recovers root_store t s) (sym is) (record { tree = r.0; recovers = r.1; stored = r.2 })
 
 module _ {T P : Type 0} {root_disk : DiskModel T} {repo_disk : DiskModel P} (root_disk_laws : IsDisk root_disk) (repo_disk_laws : IsDisk repo_disk) (store_laws : IsStore repository_store) (takes : Bool) (AreLines : Making) (before now : CallState T P) (end : End) where
   module _ (goes : GoesOnLines root_disk repo_disk takes AreLines before now end) where

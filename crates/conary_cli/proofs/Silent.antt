@@ -5,8 +5,8 @@ use Rattle.cli_call.specs.tree-disk.Tree.{Tree}
 use Rattle.cli_call.specs.tree-disk.Disk.{DiskModel}
 use Rattle.cli_call.proofs.tree-disk.Unfailed.{unfailed_weaker}
 use Rattle.cli_call.specs.Alone.{ActsOnRepository, AnswersByLists, AnswersByOpened, AnswersByTree, PerformsAlone, PerformsWithin}
-use Rattle.cli_call.specs.Command.{Answers, Disks, Performs, end_of}
-use Rattle.cli_call.specs.Line.{RunsLine, Writes}
+use Rattle.cli_call.specs.Command.{AnswersAs, Disks, Performs, end_of}
+use Rattle.cli_call.specs.Line.{RunsLine, WritesAnswer}
 use Rattle.cli_call.specs.cny-laws.declared.failure.Failure.{Failure}
 use Rattle.cli_call.specs.cny-laws.declared.failure.Failure.TheVariants as failure
 use Rattle.cli_call.specs.cny-laws.Shown.{IsShown}
@@ -33,7 +33,7 @@ module _ (m : Meaning) (input : List ℕ) (s : State) where
   next_silent (inl same) = inl same
   next_silent (inr takes) = inr (takes_silent tt takes)
 
-  answers_silent : (next : State) (result : Result (List ℕ) Failure) → Answers (m.IsOutcome s input) s next result → Answers ((silent m).IsOutcome s input) s next (unspoken result)
+  answers_silent : (next : State) (result : Result (List ℕ) Failure) → AnswersAs (m.IsOutcome s input) s next result → AnswersAs ((silent m).IsOutcome s input) s next (unspoken result)
   answers_silent next (Ok text) h = takes_silent refl h
   answers_silent next (Err (failure.Refused r)) h = ((Err r, h.0, refl), h.1)
   answers_silent next (Err failure.RootFault) h = next_silent h
@@ -138,7 +138,7 @@ module _ {T P : Type 0} {root_disk : DiskModel T} {repo_disk : DiskModel P} {m :
   tree_silent : (result : Result (List ℕ) Failure) → AnswersByTree root_disk repo_disk m input old new result → AnswersByTree root_disk repo_disk (silent m) input old new (unspoken result)
   tree_silent result done = record { root = done.root; repo = done.repo; answers = λ told s has. answers_silent m input s s result (done.answers told s has) }
 
-nothing_written : (result : Result (List ℕ) Failure) (out : SinkState) → Writes (unspoken result) out out (end_of result)
+nothing_written : (result : Result (List ℕ) Failure) (out : SinkState) → WritesAnswer (unspoken result) out out (end_of result)
 nothing_written (Ok text) out = record { later = omega arith; wrote = Appends-nil out.written }
 nothing_written (Err e) out = record { later = omega arith; wrote = (refl, refl) }
 

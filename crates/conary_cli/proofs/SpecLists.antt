@@ -5,9 +5,9 @@ use Rattle.trove_spec.specs.declared.given.GivenSpec.{GivenSpec}
 use Rattle.cli_call.specs.cny-base.declared.options.Options.{Options}
 use Rattle.conary_cli.specs.declared.words.Command.{Command}
 use Rattle.conary_cli.specs.declared.words.Command.TheVariants as command
-use Rattle.conary_cli.specs.Words.{AreGiven, HasNone, IsGiven, IsOnly, IsUpdateWith}
+use Rattle.conary_cli.specs.Words.{AreGivenSpecs, HasNone, IsGiven, IsOnly, IsUpdateWith}
 
-more : (words : List (List ℕ)) (specs : List GivenSpec) (word : List ℕ) (given : GivenSpec) → AreGiven words specs → IsGiven word given → AreGiven (words ++ word ∷ []) (specs ++ given ∷ [])
+more : (words : List (List ℕ)) (specs : List GivenSpec) (word : List ℕ) (given : GivenSpec) → AreGivenSpecs words specs → IsGiven word given → AreGivenSpecs (words ++ word ∷ []) (specs ++ given ∷ [])
 more [] [] word given are is = (is, tt)
 more [] (first ∷ specs) word given are is = absurd are
 more (first ∷ words) [] word given are is = absurd are
@@ -19,11 +19,11 @@ record Parted (words : List (List ℕ)) (word : List ℕ) (rest : List (List ℕ
   given : GivenSpec
   back : List GivenSpec
   whole : specs ≡ front ++ given ∷ back
-  before : AreGiven words front
+  before : AreGivenSpecs words front
   is : IsGiven word given
-  after : AreGiven rest back
+  after : AreGivenSpecs rest back
 
-parted : (words : List (List ℕ)) (word : List ℕ) (rest : List (List ℕ)) (specs : List GivenSpec) → AreGiven (words ++ word ∷ rest) specs → Parted words word rest specs
+parted : (words : List (List ℕ)) (word : List ℕ) (rest : List (List ℕ)) (specs : List GivenSpec) → AreGivenSpecs (words ++ word ∷ rest) specs → Parted words word rest specs
 parted [] word rest [] are = absurd are
 parted [] word rest (one ∷ specs) are = record { front = []; given = one; back = specs; whole = refl; before = tt; is = are.0; after = are.1 }
 parted (first ∷ words) word rest [] are = absurd are
@@ -31,7 +31,7 @@ parted (first ∷ words) word rest (one ∷ specs) are =
     let p = parted words word rest specs are.1 in
     record { front = one ∷ p.front; given = p.given; back = p.back; whole = ap (λ (l : List GivenSpec). one ∷ l) p.whole; before = (are.0, p.before); is = p.is; after = p.after }
 
-none_left : (specs : List GivenSpec) → AreGiven [] specs → specs ≡ []
+none_left : (specs : List GivenSpec) → AreGivenSpecs [] specs → specs ≡ []
 none_left [] are = refl
 none_left (one ∷ specs) are = absurd are
 
@@ -42,7 +42,7 @@ same_more specs front back other given part s g b o =
     ∙ (ap (λ (l : List GivenSpec). front ++ part ∷ l) (sym b)
     ∙ sym o))
 
-only_more : (words : List (List ℕ)) (specs : List GivenSpec) (word : List ℕ) (given : GivenSpec) → IsOnly (AreGiven words) specs → IsOnly (IsGiven word) given → IsOnly (AreGiven (words ++ word ∷ [])) (specs ++ given ∷ [])
+only_more : (words : List (List ℕ)) (specs : List GivenSpec) (word : List ℕ) (given : GivenSpec) → IsOnly (AreGivenSpecs words) specs → IsOnly (IsGiven word) given → IsOnly (AreGivenSpecs (words ++ word ∷ [])) (specs ++ given ∷ [])
 only_more words specs word given one last = record {
   is = more words specs word given one.is last.is;
   only = λ other are.
@@ -51,24 +51,24 @@ only_more words specs word given one last = record {
 }
 
 -- no words are no specifications
-pub none_only : IsOnly (AreGiven []) []
+pub none_only : IsOnly (AreGivenSpecs []) []
 none_only = record { is = tt; only = λ other are. sym (none_left other are) }
 
 -- the words up to a place, with the one that stands there
 pub one_more : (words : List (List ℕ)) (i : ℕ) (word : List ℕ) (specs : List GivenSpec) (given : GivenSpec) → i < length words → word ≡ get_or words i word
-    → IsOnly (AreGiven (take i words)) specs → IsOnly (IsGiven word) given → IsOnly (AreGiven (take (i + 1) words)) (specs ++ given ∷ [])
+    → IsOnly (AreGivenSpecs (take i words)) specs → IsOnly (IsGiven word) given → IsOnly (AreGivenSpecs (take (i + 1) words)) (specs ++ given ∷ [])
 one_more words i word specs given within here one last =
     let longer : take (i + 1) words ≡ take i words ++ word ∷ [] = take_more words i word within ∙ ap (λ (w : List ℕ). take i words ++ w ∷ []) (sym here) in
-    subst (λ (l : List (List ℕ)). IsOnly (AreGiven l) (specs ++ given ∷ [])) (sym longer) (only_more (take i words) specs word given one last)
+    subst (λ (l : List (List ℕ)). IsOnly (AreGivenSpecs l) (specs ++ given ∷ [])) (sym longer) (only_more (take i words) specs word given one last)
 
 -- the specification of the word at a place
 pub part_of : (words : List (List ℕ)) (i : ℕ) (word : List ℕ) → i < length words → word ≡ get_or words i word
-    → (specs : List GivenSpec) → AreGiven words specs → (given : GivenSpec) × IsGiven word given
+    → (specs : List GivenSpec) → AreGivenSpecs words specs → (given : GivenSpec) × IsGiven word given
 part_of words i word within here specs are =
     let rest = drop (i + 1) words in
     let longer : take (i + 1) words ≡ take i words ++ word ∷ [] = take_more words i word within ∙ ap (λ (w : List ℕ). take i words ++ w ∷ []) (sym here) in
     let whole : words ≡ take i words ++ (word ∷ rest) = sym (take-append-drop (i + 1) words) ∙ (ap (λ (l : List (List ℕ)). l ++ rest) longer ∙ append_assoc (take i words) (word ∷ []) rest) in
-    let p = parted (take i words) word rest specs (subst (λ (l : List (List ℕ)). AreGiven l specs) whole are) in
+    let p = parted (take i words) word rest specs (subst (λ (l : List (List ℕ)). AreGivenSpecs l specs) whole are) in
     (p.given, p.is)
 
 -- ---- `update`
@@ -79,13 +79,13 @@ no_update_of_none options words none = record { none = λ c is. let some : 1 ≤
 pub no_update_of_many : (options : Options) (words : List (List ℕ)) → 65 ≤ length words → HasNone (IsUpdateWith options words)
 no_update_of_many options words many = record { none = λ c is. let few : length words ≤ 64 = is.given.few in absurd (omega arith) }
 
-pub specs_part : (options : Options) (words : List (List ℕ)) (c : Command) → IsUpdateWith options words c → (specs : List GivenSpec) × AreGiven words specs
+pub specs_part : (options : Options) (words : List (List ℕ)) (c : Command) → IsUpdateWith options words c → (specs : List GivenSpec) × AreGivenSpecs words specs
 specs_part options words c is = (is.specs, is.given.given)
 
 same_update : (options : Options) (specs other : List GivenSpec) → specs ≡ other → command.Update specs options ≡ command.Update other options
 same_update options specs other same = ap (λ (l : List GivenSpec). command.Update l options) same
 
-pub update_only : (options : Options) (words : List (List ℕ)) (specs : List GivenSpec) → 1 ≤ length words → length words ≤ 64 → IsOnly (AreGiven words) specs → IsOnly (IsUpdateWith options words) (command.Update specs options)
+pub update_only : (options : Options) (words : List (List ℕ)) (specs : List GivenSpec) → 1 ≤ length words → length words ≤ 64 → IsOnly (AreGivenSpecs words) specs → IsOnly (IsUpdateWith options words) (command.Update specs options)
 update_only options words specs some few one = record {
   is = record { specs = specs; is = refl; given = record { some = some; few = few; given = one.is } };
   only = λ c is. same_update options specs is.specs (one.only is.specs is.given.given) ∙ sym is.is;

@@ -61,34 +61,34 @@ IfRead input s end Decided = fixed_dirs (tree_of s.root) ≡ Ok tt → length in
 
 module _ {T P : Type 0} (root_disk : DiskModel T) (repo_disk : DiskModel P) where
   -- done: both disks rest and store the state after the effect, and its bytes were written
-  pub record IsDone (s : State) (e : Effect) (before now : CallState T P) (end : End) : Type 0 where
+  pub record IsCallDone (s : State) (e : Effect) (before now : CallState T P) (end : End) : Type 0 where
     pub ended : end ≡ Ok tt
     pub rests : RestBoth root_disk repo_disk now (after s e.change)
     pub out : Appends before.out.written now.out.written e.out
 
   -- a call ended as its outcome says
-  abbrev pub IsAnswered : State → Result Effect Refusal → CallState T P → CallState T P → End → Type 0
-  IsAnswered s (Ok e) before now end = IsDone s e before now end
-  IsAnswered s (Err r) before now end = end ≡ Err (failure.Refused r)
+  abbrev pub IsCallAnswered : State → Result Effect Refusal → CallState T P → CallState T P → End → Type 0
+  IsCallAnswered s (Ok e) before now end = IsCallDone s e before now end
+  IsCallAnswered s (Err r) before now end = end ≡ Err (failure.Refused r)
 
   -- The same of the root alone, where the effect leaves the repository.
-  pub record IsDoneOnRoot (s : State) (e : Effect) (before now : CallState T P) (end : End) : Type 0 where
+  pub record IsCallDoneOnRoot (s : State) (e : Effect) (before now : CallState T P) (end : End) : Type 0 where
     pub ended : end ≡ Ok tt
     pub rests : RestsAt root_store root_disk now.root (after s e.change).root
     pub stays : (after s e.change).repository ≡ s.repository
     pub out : Appends before.out.written now.out.written e.out
 
-  abbrev pub IsAnsweredOnRoot : State → Result Effect Refusal → CallState T P → CallState T P → End → Type 0
-  IsAnsweredOnRoot s (Ok e) before now end = IsDoneOnRoot s e before now end
-  IsAnsweredOnRoot s (Err r) before now end = end ≡ Err (failure.Refused r)
+  abbrev pub IsCallAnsweredOnRoot : State → Result Effect Refusal → CallState T P → CallState T P → End → Type 0
+  IsCallAnsweredOnRoot s (Ok e) before now end = IsCallDoneOnRoot s e before now end
+  IsCallAnsweredOnRoot s (Err r) before now end = end ≡ Err (failure.Refused r)
 
   -- Where the disks are told, the fixed directories stand and the input is within its limit, how these commands are done or refused is
   -- decided by the form; of `install` and `showcs` also where the root alone is told, unless the repository wasn't opened.
   pub record FormDecides (c : Command) (input : List ℕ) (before now : CallState T P) (end : End) : Type 0 where
-    pub manifest : (options : Options) → c ≡ command.Install options → FromStates root_disk repo_disk before (λ s. IfRead input s end (DecidesForm options input s (λ outcome. IsAnswered s outcome before now end)))
-    pub set : c ≡ command.ShowChangeSet → FromStates root_disk repo_disk before (λ s. IfRead input s end (DecidesSet input (λ outcome. IsAnswered s outcome before now end)))
-    pub update : (options : Options) → c ≡ command.UpdateByInput options → FromStates root_disk repo_disk before (λ s. IfRead input s end (DecidesUpdate options input s (λ outcome. IsAnswered s outcome before now end)))
+    pub manifest : (options : Options) → c ≡ command.Install options → FromStates root_disk repo_disk before (λ s. IfRead input s end (DecidesForm options input s (λ outcome. IsCallAnswered s outcome before now end)))
+    pub set : c ≡ command.ShowChangeSet → FromStates root_disk repo_disk before (λ s. IfRead input s end (DecidesSet input (λ outcome. IsCallAnswered s outcome before now end)))
+    pub update : (options : Options) → c ≡ command.UpdateByInput options → FromStates root_disk repo_disk before (λ s. IfRead input s end (DecidesUpdate options input s (λ outcome. IsCallAnswered s outcome before now end)))
     pub manifest_alone : (options : Options) → c ≡ command.Install options → FromRoots root_disk repo_disk before (λ s. IfRead input s end
-        (StopsForRepository root_disk repo_disk before now end ⊎ DecidesForm options input s (λ outcome. IsAnsweredOnRoot s outcome before now end)))
+        (StopsForRepository root_disk repo_disk before now end ⊎ DecidesForm options input s (λ outcome. IsCallAnsweredOnRoot s outcome before now end)))
     pub set_alone : c ≡ command.ShowChangeSet → FromRoots root_disk repo_disk before (λ s. IfRead input s end
-        (StopsForRepository root_disk repo_disk before now end ⊎ DecidesSet input (λ outcome. IsAnsweredOnRoot s outcome before now end)))
+        (StopsForRepository root_disk repo_disk before now end ⊎ DecidesSet input (λ outcome. IsCallAnsweredOnRoot s outcome before now end)))

@@ -5,11 +5,11 @@ use Rattle.cli_call.specs.cny-base.declared.refusal.Refusal.{Refusal}
 use Rattle.cli_call.specs.tree-disk.Disk.{DiskModel}
 use Rattle.cny_batch.specs.declared.line.Line.{Line}
 use Rattle.cli_call.specs.Command.{AreReady}
-use Rattle.cli_call.specs.Line.{Ends, Moment, RunsLine}
+use Rattle.cli_call.specs.Line.{EndsWriting, Moment, RunsLine}
 use Rattle.cli_call.specs.cny-laws.declared.failure.Failure.{Failure}
 use Rattle.cli_call.specs.cny-laws.declared.failure.Failure.TheVariants as failure
 use Rattle.cli_call.specs.cny-laws.Reading.{given}
-use Rattle.cli_call.specs.cny-laws.Report.{End, IsAnswer}
+use Rattle.cli_call.specs.cny-laws.Report.{End, MustBeTold}
 use Rattle.cli_call.specs.cny-laws.State.{State, Effect, Meaning}
 use Rattle.cli_call.specs.cny-laws.WholeCall.{OwnOutcome}
 use Rattle.conary_cli.specs.declared.words.Command.{Command}
@@ -87,7 +87,7 @@ module _ {T P : Type 0} (root_disk : DiskModel T) (repo_disk : DiskModel P) wher
   -- a command, or words that are none: usage, or what isn't built yet
   abbrev pub RunsOf : Result Command Failure → CallLine → Moment T P → Moment T P → End → Type 0
   RunsOf (Ok c) l old new end = RefusesInput (meaning c) l.line.input old new end ⊎ RunsGiven c l.shown l.line.input old new end
-  RunsOf (Err e) l old new end = (new ≡ old) × (end ≡ Err e) × IsAnswer e
+  RunsOf (Err e) l old new end = (new ≡ old) × (end ≡ Err e) × MustBeTold e
 
   -- Nothing was done, for want of memory.
   pub record IsNotBegun (old new : Moment T P) (end : End) : Type 0 where
@@ -116,7 +116,7 @@ module _ {T P : Type 0} (root_disk : DiskModel T) (repo_disk : DiskModel P) wher
 -- How a line ended: as its command, with the state after it, and without a call of the output where it isn't shown; or it is none, and
 -- nothing was done.
 abbrev pub LineEnds : Result Command Failure → CallLine → State → State → SinkState → SinkState → End → Type 0
-LineEnds (Ok c) l s next before now end = Ends (LineOutcome (Ok c) l s) s next before now end × (l.shown ≡ false → now ≡ before)
+LineEnds (Ok c) l s next before now end = EndsWriting (LineOutcome (Ok c) l s) s next before now end × (l.shown ≡ false → now ≡ before)
 LineEnds (Err e) l s next before now end = (end ≡ Err e) × (next ≡ s) × (now ≡ before)
 
 -- The words of the line are something, which is one thing alone; or memory ran out before they were read.

@@ -22,9 +22,9 @@ module _ {T P : Type 0} (root_disk : DiskModel T) (repo_disk : DiskModel P) wher
   LiveBoth s (t ∷ u ∷ more) root root' repo repo' = (mid : T) × (far : P) × LiveStep s t root mid repo far × LiveBoth t (u ∷ more) mid root' far repo'
 
 -- the last of these states, and the one before it
-abbrev pub last_of : {X : Type 0} → X → List X → X
-last_of x [] = x
-last_of x (y ∷ more) = last_of y more
+abbrev pub last_state : {X : Type 0} → X → List X → X
+last_state x [] = x
+last_state x (y ∷ more) = last_state y more
 
 abbrev pub before_last : {X : Type 0} → X → List X → X
 before_last x [] = x

@@ -45,13 +45,13 @@ module _ {T : Type 0} (root_disk : DiskModel T) where
       → HasRestored (IsRestored o s.tree) now end ⊎ MeetsException (IsException o s.tree) end
 
   -- The same of all jobs from the newest down to the one of a number, where nothing at the paths of each was edited when its turn came.
-  abbrev pub RestoresTo : ℕ → RootState → T → End → Type 0
-  RestoresTo number s now end = HasJob s.stack number → AreUnedited s number
+  abbrev pub RestoresDownTo : ℕ → RootState → T → End → Type 0
+  RestoresDownTo number s now end = HasJob s.stack number → AreUnedited s number
       → HasRestored (AreRestored (jobs_to number s.stack) s) now end ⊎ MeetsException (IsExceptionTo s number) end
 
   abbrev pub RestoresBy : Option ℕ → RootState → T → End → Type 0
   RestoresBy None = RestoresNewest
-  RestoresBy (Some number) = RestoresTo number
+  RestoresBy (Some number) = RestoresDownTo number
 
   -- Of a line, over a root that is open and told: a `rollback` that is done or refused ends so from each system at which the root rests.
   abbrev pub LineRestores : Command → T → T → End → Type 0

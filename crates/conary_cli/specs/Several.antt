@@ -30,7 +30,7 @@ use Rattle.cli_call.specs.cny-laws.Stores.{root_store, repository_store}
 use Rattle.cli_call.specs.cny-laws.WholeCall.{AreLater, FromStates, IsCall, RestBoth, after_edits}
 use Rattle.cli_call.specs.system-core.FixedDirs.{fixed_dirs}
 use Rattle.conary_cli.specs.Lines.{CallLine, all_shown, last_shown, LinesEnd, RunsLines}
-use Rattle.conary_cli.specs.Lives.{LiveBoth, before_last, last_of}
+use Rattle.conary_cli.specs.Lives.{LiveBoth, before_last, last_state}
 
 -- ---- which lines
 
@@ -84,10 +84,10 @@ module _ {T P : Type 0} (root_disk : DiskModel T) (repo_disk : DiskModel P) wher
     -- From then on they lived these states, with the same moments between for both; one line changes one disk at most.
     pub lives : LiveBoth root_disk repo_disk s states root now.root repo now.repo
     -- after a status up to 4 both rest at the last of the states, also after a crash
-    pub rests : status_of end ≤ 4 → RestBoth root_disk repo_disk now (last_of s states)
+    pub rests : status_of end ≤ 4 → RestBoth root_disk repo_disk now (last_state s states)
     -- as they read, they recover to the last but one of the states or to the last
-    pub root_reads : OneOf root_store (before_last s states).root (last_of s states).root (root_disk.reads now.root)
-    pub repo_reads : OneOf repository_store (before_last s states).repository (last_of s states).repository (repo_disk.reads now.repo)
+    pub root_reads : OneOf root_store (before_last s states).root (last_state s states).root (root_disk.reads now.root)
+    pub repo_reads : OneOf repository_store (before_last s states).repository (last_state s states).repository (repo_disk.reads now.repo)
 
   -- ---- the lines were run
 

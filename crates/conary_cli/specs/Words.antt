@@ -138,9 +138,9 @@ cook_of (word ∷ []) = if bytes_eq word (codes "--next") then Ok (command.Cook 
 cook_of (word ∷ other ∷ words) = Err failure.Usage
 
 -- `commit` stands alone
-abbrev pub commit_of : List (List ℕ) → Result Command Failure
-commit_of [] = Ok command.Commit
-commit_of (word ∷ words) = Err failure.Usage
+abbrev pub commit_words : List (List ℕ) → Result Command Failure
+commit_words [] = Ok command.Commit
+commit_words (word ∷ words) = Err failure.Usage
 
 -- `rq`: all committed troves, or those of a name; another word is usage
 abbrev pub list_of : List (List ℕ) → Result Command Failure
@@ -174,7 +174,7 @@ command_of (word ∷ words) =
     if bytes_eq word (codes "install") then install_of words
     else if bytes_eq word (codes "showcs") then show_of words
     else if bytes_eq word (codes "cook") then cook_of words
-    else if bytes_eq word (codes "commit") then commit_of words
+    else if bytes_eq word (codes "commit") then commit_words words
     else if bytes_eq word (codes "rq") then list_of words
     else if bytes_eq word (codes "erase") then erase_of words
     else if bytes_eq word (codes "rollback") then rollback_of words
@@ -229,16 +229,16 @@ pub record IsMove (onto : Way) (words : List (List ℕ)) (c : Command) : Type 0 
   pub both : AreLabelAndSpec words label given
 
 -- the words are these specifications, in their order
-abbrev pub AreGiven : List (List ℕ) → List GivenSpec → Type 0
-AreGiven [] [] = Unit {0}
-AreGiven (word ∷ words) (given ∷ specs) = IsGiven word given × AreGiven words specs
-AreGiven _ _ = ⊥
+abbrev pub AreGivenSpecs : List (List ℕ) → List GivenSpec → Type 0
+AreGivenSpecs [] [] = Unit {0}
+AreGivenSpecs (word ∷ words) (given ∷ specs) = IsGiven word given × AreGivenSpecs words specs
+AreGivenSpecs _ _ = ⊥
 
 -- behind the options of `update`: at least one specification, and at most 64
 pub record AreSomeGiven (words : List (List ℕ)) (specs : List GivenSpec) : Type 0 where
   pub some : 1 ≤ length words
   pub few : length words ≤ 64
-  pub given : AreGiven words specs
+  pub given : AreGivenSpecs words specs
 
 -- such words behind these options make this command
 pub record IsUpdateWith (options : Options) (words : List (List ℕ)) (c : Command) : Type 0 where
@@ -266,9 +266,9 @@ abbrev pub update_form : List (List ℕ) → Form
 update_form words = let read = options_at words in if is_input read.1 then form.Others else if is_resolve read.1 then form.Others else form.Updates
 
 -- what the first word says of the words behind it
-abbrev pub form_of : List (List ℕ) → Form
-form_of [] = form.Others
-form_of (word ∷ words) =
+abbrev pub form_of_words : List (List ℕ) → Form
+form_of_words [] = form.Others
+form_of_words (word ∷ words) =
     if bytes_eq word (codes "changeset") then form.Specs
     else if bytes_eq word (codes "shadow") then form.LabelAndSpec way.Shadow
     else if bytes_eq word (codes "branch") then form.LabelAndSpec way.Branch
@@ -288,7 +288,7 @@ AreOfForm form.Others words expected = expected ≡ command_of words
 
 -- the words are this command, or none, for this reason
 abbrev pub AreWords : List (List ℕ) → Result Command Failure → Type 0
-AreWords words expected = AreOfForm (form_of words) words expected
+AreWords words expected = AreOfForm (form_of_words words) words expected
 
 -- It can't be that words are nothing: neither a command nor none for a reason.
 abbrev pub AreSomething : List (List ℕ) → Type 0

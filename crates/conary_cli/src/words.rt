@@ -6,7 +6,7 @@ ghost use Rattle.cli_call.specs.cny-base.declared.text.TextFault.TheVariants as 
 ghost use Rattle.trove_spec.specs.Spec.{IsSpecText};
 ghost use Rattle.cli_call.specs.cny-laws.declared.failure.Failure.{Failure};
 ghost use Rattle.conary_cli.specs.declared.words.Command.{Command};
-ghost use Rattle.conary_cli.specs.Words.{AreGiven, AreSomething, AreWords, is_input, is_resolve, IsUpdate, IsUpdateWith, update_form, update_of, update_with, behind, form_of, IsGiven, IsLabelWord, IsMove, IsSend, is_short_word, are_names, is_planned_command, job_number, erase_of, erase_with, installed_of, jobs_of, local_of, verify_with, option_at, options_at, rollback_of, verify_of, command_of, commit_of, cook_of, install_of, list_of, show_of, OrMemory, ReadsOnly, ReadsWords, not_built};
+ghost use Rattle.conary_cli.specs.Words.{AreGivenSpecs, AreSomething, AreWords, is_input, is_resolve, IsUpdate, IsUpdateWith, update_form, update_of, update_with, behind, form_of_words, IsGiven, IsLabelWord, IsMove, IsSend, is_short_word, are_names, is_planned_command, job_number, erase_of, erase_with, installed_of, jobs_of, local_of, verify_with, option_at, options_at, rollback_of, verify_of, command_of, commit_words, cook_of, install_of, list_of, show_of, OrMemory, ReadsOnly, ReadsWords, not_built};
 
 use cli_call::Failure;
 use cli_call::cny_base::{ListOf, Name, Options, Refusal, Text, TextFault, read_decimal};
@@ -388,7 +388,7 @@ fn read_cook(words: &[String]) -> Result<Command, Failure>
 
 // The words after `commit`.
 fn read_commit(words: &[String]) -> Result<Command, Failure>
-    ensures { ReadsWords (commit_of (map string_bytes words.now)) result }
+    ensures { ReadsWords (commit_words (map string_bytes words.now)) result }
 {
     if words.is_empty() {
         return Ok(Command::Commit);
@@ -517,7 +517,7 @@ fn read_move(alloc: Global, way: Way, words: &[String]) -> Result<Command, Failu
 
 // The specifications that the words are, in their order.
 fn read_specs(alloc: Global, words: &[String]) -> Result<SpecList, Failure>
-    ensures { ReadsOnly (AreGiven (map string_bytes words.now)) result }
+    ensures { ReadsOnly (AreGivenSpecs (map string_bytes words.now)) result }
 {
     let mut specs = Vec::new(alloc);
     for word in words {
@@ -611,7 +611,7 @@ fn update_form(words: &[String]) -> Form
 
 // What the first word says of the words behind it.
 fn first_form(words: &[String]) -> Form
-    ensures { result ≡ form_of (map string_bytes words.now) }
+    ensures { result ≡ form_of_words (map string_bytes words.now) }
 {
     let [word, rest @ ..] = words else {
         return Form::Others;

@@ -6,7 +6,7 @@ use Rattle.conary_cli.specs.cli-call.trove-stream.declared.rel.RelParts.{RelPart
 use Rattle.conary_cli.specs.cli-call.change-rel.Leads.{Leads}
 use Rattle.conary_cli.specs.cli-call.change-set.declared.change.ChangeSet.{ChangeSet}
 use Rattle.repo_load.specs.State.{catalogue_of, troves_of, RepositoryState}
-use Rattle.repository.specs.Steps.{after_commit, IsStep}
+use Rattle.repository.specs.Steps.{after_commit, IsCommitStep}
 use Rattle.repository.specs.Tests.{IsRefused}
 use Rattle.repository.proofs.Unique.{make_once}
 use Rattle.conary_cli.specs.repo-commands.Commit.{commit, committed, Commits}
@@ -18,7 +18,7 @@ use Rattle.outcome_laws.proofs.Tests.{done, refused, with_shared, SetLaws, set_o
 pub record CommitLaws : Type 0 where
   pub led : (rel : RelParts) (old a b : TroveParts) → Leads rel old a → Leads rel old b → a ≡ b
   pub refusal : (r : RepositoryState) (change : ChangeSet) (a b : Refusal) → IsRefused (catalogue_of r.commits) r.contents change a → IsRefused (catalogue_of r.commits) r.contents change b → a ≡ b
-  pub apart : (r : RepositoryState) (change : ChangeSet) (new : RepositoryState) (refusal : Refusal) → IsStep r change new → IsRefused (catalogue_of r.commits) r.contents change refusal → ⊥
+  pub apart : (r : RepositoryState) (change : ChangeSet) (new : RepositoryState) (refusal : Refusal) → IsCommitStep r change new → IsRefused (catalogue_of r.commits) r.contents change refusal → ⊥
 
 module _ (laws : CommitLaws) where
   pub commits_once : (set : ChangeSet) (r : RepositoryState) → AtMostOne (Commits set r)

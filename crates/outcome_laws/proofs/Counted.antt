@@ -14,7 +14,7 @@ use Rattle.conary_cli.specs.declared.words.Command.{Command}
 use Rattle.conary_cli.specs.Calls.{AreCall}
 use Rattle.conary_cli.specs.Commands.{meaning}
 use Rattle.conary_cli.specs.Lines.{CallLine}
-use Rattle.conary_cli.specs.Lives.{last_of}
+use Rattle.conary_cli.specs.Lives.{last_state}
 use Rattle.conary_cli.specs.Several.{AreBatchLines, AreDemoLines}
 use Rattle.conary_cli.specs.Words.{AreWords}
 use Rattle.outcome_laws.specs.OneOutcome.{IsState}
@@ -49,16 +49,16 @@ one_more (Ok x) run some = refl
 one_more (Err e) run some = let least = some e refl in omega (arith, least)
 
 -- behind the first line
-counted_behind : (l : CallLine) (lines : List CallLine) (s : State) (a : Answer) (all : Answers) → AnswersLine l s a → ((more : Answers) → AnswersLines lines a.next more → AfterLines (lines_done more) lines a.next (last_of a.next more.states))
-    → (StopsAt a all ⊎ GoesOn (AnswersLines lines a.next) a all) → AfterLines (lines_done all) (l ∷ lines) s (last_of s all.states)
-counted_behind l lines s a all line rest (inl p) = subst (λ (x : Answers). AfterLines (lines_done x) (l ∷ lines) s (last_of s x.states)) (sym p.2)
+counted_behind : (l : CallLine) (lines : List CallLine) (s : State) (a : Answer) (all : Answers) → AnswersLine l s a → ((more : Answers) → AnswersLines lines a.next more → AfterLines (lines_done more) lines a.next (last_state a.next more.states))
+    → (StopsAt a all ⊎ GoesOn (AnswersLines lines a.next) a all) → AfterLines (lines_done all) (l ∷ lines) s (last_state s all.states)
+counted_behind l lines s a all line rest (inl p) = subst (λ (x : Answers). AfterLines (lines_done x) (l ∷ lines) s (last_state s x.states)) (sym p.2)
     (subst (λ (end : End). AfterLines (done_of end (length (a.next ∷ []))) (l ∷ lines) s a.next) (sym p.1) (undone_by line.expected l s a p.0 line.is p.1))
-counted_behind l lines s a all line rest (inr p) = subst (λ (x : Answers). AfterLines (lines_done x) (l ∷ lines) s (last_of s x.states)) (sym p.3)
-    (subst (λ (count : ℕ). AfterLines count (l ∷ lines) s (last_of a.next p.0.states)) (sym (one_more p.0.end (length p.0.states) (λ e ended. run_some lines a.next p.0 e p.2 ended)))
+counted_behind l lines s a all line rest (inr p) = subst (λ (x : Answers). AfterLines (lines_done x) (l ∷ lines) s (last_state s x.states)) (sym p.3)
+    (subst (λ (count : ℕ). AfterLines count (l ∷ lines) s (last_state a.next p.0.states)) (sym (one_more p.0.end (length p.0.states) (λ e ended. run_some lines a.next p.0 e p.2 ended)))
     (a, line, p.1, rest p.0 p.2))
 
-lines_counted : (lines : List CallLine) (s : State) (all : Answers) → AnswersLines lines s all → AfterLines (lines_done all) lines s (last_of s all.states)
-lines_counted [] s all h = subst (λ (x : Answers). AfterLines (lines_done x) [] s (last_of s x.states)) (sym h) refl
+lines_counted : (lines : List CallLine) (s : State) (all : Answers) → AnswersLines lines s all → AfterLines (lines_done all) lines s (last_state s all.states)
+lines_counted [] s all h = subst (λ (x : Answers). AfterLines (lines_done x) [] s (last_state s x.states)) (sym h) refl
 lines_counted (l ∷ lines) s all h = counted_behind l lines s h.0 all h.1 (λ more is. lines_counted lines h.0.next more is) h.2
 
 -- ---- a call
@@ -67,14 +67,14 @@ of_lines : (l : Line) (s t : State) (lines : List CallLine) → LinesOf l s line
 of_lines l s t lines has zero h = h
 of_lines l s t lines has (suc count) h = (lines, has, h)
 
-none_counted : (l : Line) (s : State) (all : Answers) (e : Failure) → all ≡ none_run (Err e) → AfterCall l (lines_done all) s (last_of s all.states)
-none_counted l s all e is = subst (λ (x : Answers). AfterCall l (lines_done x) s (last_of s x.states)) (sym is) refl
+none_counted : (l : Line) (s : State) (all : Answers) (e : Failure) → all ≡ none_run (Err e) → AfterCall l (lines_done all) s (last_state s all.states)
+none_counted l s all e is = subst (λ (x : Answers). AfterCall l (lines_done x) s (last_state s x.states)) (sym is) refl
 
-made_counted : (l : Line) (s : State) (all : Answers) (c : Call) → AreCall l.words (Ok c) → (lines : Result (List CallLine) Refusal) → HasLines c l s lines → AnswersMade lines s all → AfterCall l (lines_done all) s (last_of s all.states)
-made_counted l s all c are (Ok lines) has h = of_lines l s (last_of s all.states) lines (record { calls = c; are = are; has = has }) (lines_done all) (lines_counted lines s all h)
+made_counted : (l : Line) (s : State) (all : Answers) (c : Call) → AreCall l.words (Ok c) → (lines : Result (List CallLine) Refusal) → HasLines c l s lines → AnswersMade lines s all → AfterCall l (lines_done all) s (last_state s all.states)
+made_counted l s all c are (Ok lines) has h = of_lines l s (last_state s all.states) lines (record { calls = c; are = are; has = has }) (lines_done all) (lines_counted lines s all h)
 made_counted l s all c are (Err r) has h = none_counted l s all _ h
 
-call_counted : (l : Line) (s : State) (all : Answers) (expected : Result Call Failure) → AreCall l.words expected → AnswersCallBy expected l s all → AfterCall l (lines_done all) s (last_of s all.states)
+call_counted : (l : Line) (s : State) (all : Answers) (expected : Result Call Failure) → AreCall l.words expected → AnswersCallBy expected l s all → AfterCall l (lines_done all) s (last_state s all.states)
 call_counted l s all (Ok c) are h = made_counted l s all c are h.0 h.1 h.2
 call_counted l s all (Err e) are h = none_counted l s all e h
 
@@ -84,7 +84,7 @@ pub answered_folds : (events : List Event) (said : List Answers) (s t : State) �
 answered_folds [] [] s t h = h
 answered_folds [] (all ∷ said) s t h = absurd h
 answered_folds (called l ∷ events) [] s t h = absurd h
-answered_folds (called l ∷ events) (all ∷ said) s t h = (last_of s all.states, call_counted l s all h.0.expected h.0.are h.0.is, answered_folds events said (last_of s all.states) t h.1)
+answered_folds (called l ∷ events) (all ∷ said) s t h = (last_state s all.states, call_counted l s all h.0.expected h.0.are h.0.is, answered_folds events said (last_state s all.states) t h.1)
 answered_folds (crashed l ∷ events) said s t h = absurd h
 answered_folds (altered e ∷ events) said s t h = (h.0, h.1, answered_folds events said h.0 t h.2)
 

@@ -6,7 +6,7 @@ use Rattle.conary_cli.specs.cli-call.cny-base.declared.refusal.Refusal.{Refusal}
 use Rattle.conary_cli.specs.cli-call.tree-disk.Tree.{Tree}
 use Rattle.conary_cli.specs.cli-call.tree-disk.Disk.{DiskModel, IsDisk, IsImageOf}
 use Rattle.conary_cli.specs.cli-call.Command.{disks, AreReady, StandsFor}
-use Rattle.conary_cli.specs.cli-call.Line.{Ends, Moment}
+use Rattle.conary_cli.specs.cli-call.Line.{EndsWriting, Moment}
 use Rattle.conary_cli.specs.cli-call.Runs.{after_opening}
 use Rattle.conary_cli.specs.cli-call.cny-laws.declared.failure.Failure.{Failure}
 use Rattle.conary_cli.specs.cli-call.cny-laws.declared.failure.Failure.TheVariants as failure
@@ -75,7 +75,7 @@ module _ (l : CallLine) (s next : State) (dirs : fixed_dirs (tree_of s.root) ≡
   next_by lines c are (inl same) = inl same
   next_by lines c are (inr takes) = taken lines c are takes
 
-  ended_by : (lines : List CallLine) (c : Command) → IsOnly (AreWords l.line.words) (Ok c) → (out out' : SinkState) (end : End) → Ends (LineOutcome (Ok c) l s) s next out out' end → OneMore lines
+  ended_by : (lines : List CallLine) (c : Command) → IsOnly (AreWords l.line.words) (Ok c) → (out out' : SinkState) (end : End) → EndsWriting (LineOutcome (Ok c) l s) s next out out' end → OneMore lines
   ended_by lines c are out out' (Ok x) h = taken lines c are h
   ended_by lines c are out out' (Err (failure.Refused r)) h = inl h.1
   ended_by lines c are out out' (Err failure.OutputFault) h = taken lines c are h

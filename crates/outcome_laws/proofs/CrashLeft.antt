@@ -20,7 +20,7 @@ use Rattle.conary_cli.specs.cli-call.cny-laws.Report.{status_of, End}
 use Rattle.conary_cli.specs.cli-call.cny-laws.State.{Effect, Meaning, OneDisk, RootState, Scope, State}
 use Rattle.conary_cli.specs.cli-call.cny-laws.Store.{IsEntryOr, IsSettled, IsStore, OneOf, Recovers, RestsAt, Store}
 use Rattle.conary_cli.specs.cli-call.cny-laws.Stores.{repository_store, root_store}
-use Rattle.conary_cli.specs.cli-call.cny-laws.WholeCall.{after_edits, CallEnds, CallFrom, HasEffect, LivePair, Outcome, Reaches, RecoversBoth, RestBoth}
+use Rattle.conary_cli.specs.cli-call.cny-laws.WholeCall.{after_edits, CallEnds, CallFrom, HasEffect, LivePair, Outcome, CallReaches, RecoversBoth, RestBoth}
 use Rattle.conary_cli.proofs.cli-call.RootLaws.{opened_root_rests, root_laws}
 use Rattle.conary_cli.proofs.cli-call.StoreLaws.{rest_image, same_stores, settled_rests}
 use Rattle.conary_cli.proofs.cli-call.cny-laws.EditedSystems.{recovers_at_rest, the_system}
@@ -186,7 +186,7 @@ module _ {T P : Type 0} (root_disk : DiskModel T) (repo_disk : DiskModel P) (rep
   rests_by IsOutcome s next out out' _ h small effect same = absurd h
 
 pub call_rests : {T P : Type 0} (root_disk : DiskModel T) (repo_disk : DiskModel P) → IsStore repository_store → IsTrue root_disk.tells → IsTrue repo_disk.tells → (scope : Scope) (m : Meaning) (input : List ℕ) (before now : CallState T P) (end : End) (s : State)
-    → Reaches root_disk repo_disk scope m input before now end → (f : CallFrom root_disk repo_disk m input s before now end) → status_of end ≤ 4 → NotOpened root_disk repo_disk before now end ⊎ RestBoth root_disk repo_disk now f.next
+    → CallReaches root_disk repo_disk scope m input before now end → (f : CallFrom root_disk repo_disk m input s before now end) → status_of end ≤ 4 → NotOpened root_disk repo_disk before now end ⊎ RestBoth root_disk repo_disk now f.next
 call_rests root_disk repo_disk repo_laws told far_told scope m input before now end s (inl stops) f small = inl stops
 call_rests root_disk repo_disk repo_laws told far_told scope m input before now end s (inr opened) f small = inr (rests_by root_disk repo_disk repo_laws now (Outcome m s input) s f.next before.out now.out end f.ends small f.rests
     (rests_same root_disk repo_disk repo_laws now s f.next (opened.root_rests small told) (opened.repo_rests small far_told) f.root_reads f.repo_reads))

@@ -16,7 +16,7 @@ use Rattle.root_edits.specs.Local.{all_contents, first_refusal, AreLocalParts, I
 use Rattle.root_edits.specs.Moved.{AreLocalRefs}
 use Rattle.root_edits.specs.Reached.{AreReached}
 use Rattle.root_edits.specs.Standing.{Sight, sights}
-use Rattle.conary_cli.specs.root-commands.LocalChanges.{change_locally, ChangesLocally, IsAnswered, IsSetOf}
+use Rattle.conary_cli.specs.root-commands.LocalChanges.{change_locally, ChangesLocally, IsSetAnswered, IsSetOf}
 use Rattle.change_rel.proofs.Members.{same_members}
 use Rattle.local_db.proofs.Sorted.{trove_total}
 use Rattle.outcome_laws.specs.OneOutcome.{AtMostOne, HasOneOutcome}
@@ -65,7 +65,7 @@ module _ (one : OneRelative) where
 
   -- ---- the answer
 
-  answer_once : (set : ChangeSet) → AtMostOne (IsAnswered set)
+  answer_once : (set : ChangeSet) → AtMostOne (IsSetAnswered set)
   answer_once set (Ok x) (Ok y) h g = ap done (effect_once x y (h.0 ∙ sym g.0) (h.1.text ∙ sym g.1.text))
   answer_once set (Ok x) (Err q) h g = absurd (cc (sym h.2 ∙ g))
   answer_once set (Err p) (Ok y) h g = absurd (cc (sym g.2 ∙ h))
@@ -73,7 +73,7 @@ module _ (one : OneRelative) where
 
   set_of_once : (name : List ℕ) (s : RootState) → AtMostOne (IsSetOf name s)
   set_of_once name s a b h g =
-      answer_once g.set a b (subst (λ (set : ChangeSet). IsAnswered set a) (set_once s.installed name (tree_of s) h.set g.set h.local g.local) h.answered) g.answered
+      answer_once g.set a b (subst (λ (set : ChangeSet). IsSetAnswered set a) (set_once s.installed name (tree_of s) h.set g.set h.local g.local) h.answered) g.answered
 
   module _ (list : List TroveParts) (name : List ℕ) (tree : Tree) where
     missing_once : AtMostOne (IsNotInstalled list name)

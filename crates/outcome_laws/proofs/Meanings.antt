@@ -24,7 +24,7 @@ use Rattle.trove_spec.specs.declared.given.GivenSpec.{GivenSpec}
 use Rattle.trove_spec.specs.AndThen.{AndThen}
 use Rattle.conary_cli.specs.repo-commands.Commit.{Commits}
 use Rattle.trove_spec.specs.Meant.{Means, Reaches, Expands, ExpandsFrom}
-use Rattle.conary_cli.specs.repo-commands.Moving.{IsMoved, move, set_of}
+use Rattle.conary_cli.specs.repo-commands.Moving.{IsMoved, move, set_of_troves}
 use Rattle.conary_cli.specs.root-commands.UpdateSpecs.{ReachAll}
 use Rattle.outcome_laws.specs.OneOutcome.{AtMostOne, HasOneOutcome}
 use Rattle.outcome_laws.proofs.Tests.{with_shared, and_then_once}
@@ -115,11 +115,11 @@ moved_once laws way label troves root (Err p) (Err q) h g = let same = laws.refu
 pub move_once : OneLabel → MoveLaws → CommitLaws → (way : Way) (label : LabelParts) (given : GivenSpec) → HasOneOutcome (move way label given)
 move_once one_label laws commit_laws way label given = with_shared (move way label given) (λ s input state.
     and_then_once (HasConfig (tree_of s.root))
-    (λ (config : Config). AndThen (Means (troves_of s.repository.commits) config given) (λ (root : TroveId). AndThen (IsMoved way label (troves_of s.repository.commits) root) (λ (made : List TroveParts). Commits (set_of made) s.repository)))
+    (λ (config : Config). AndThen (Means (troves_of s.repository.commits) config given) (λ (root : TroveId). AndThen (IsMoved way label (troves_of s.repository.commits) root) (λ (made : List TroveParts). Commits (set_of_troves made) s.repository)))
     (configured_once one_label (tree_of s.root))
     (λ config. and_then_once (Means (troves_of s.repository.commits) config given)
-    (λ (root : TroveId). AndThen (IsMoved way label (troves_of s.repository.commits) root) (λ (made : List TroveParts). Commits (set_of made) s.repository))
+    (λ (root : TroveId). AndThen (IsMoved way label (troves_of s.repository.commits) root) (λ (made : List TroveParts). Commits (set_of_troves made) s.repository))
     (means_once (troves_of s.repository.commits) config given)
-    (λ root. and_then_once (IsMoved way label (troves_of s.repository.commits) root) (λ (made : List TroveParts). Commits (set_of made) s.repository)
+    (λ root. and_then_once (IsMoved way label (troves_of s.repository.commits) root) (λ (made : List TroveParts). Commits (set_of_troves made) s.repository)
     (moved_once laws way label (troves_of s.repository.commits) root)
-    (λ made. commits_once commit_laws (set_of made) s.repository))))
+    (λ made. commits_once commit_laws (set_of_troves made) s.repository))))

@@ -38,7 +38,7 @@ use Rattle.conary_cli.specs.declared.words.Command.TheVariants as command
 use Rattle.conary_cli.specs.Calls.{AreCall}
 use Rattle.conary_cli.specs.Commands.{erasing, meaning}
 use Rattle.conary_cli.specs.Lines.{all_shown, heard, silent, unheard, CallLine}
-use Rattle.conary_cli.specs.Lives.{last_of}
+use Rattle.conary_cli.specs.Lives.{last_state}
 use Rattle.conary_cli.specs.Several.{AreBatchLines, AreDemoLines}
 use Rattle.conary_cli.specs.Words.{AreWords}
 use Rattle.outcome_laws.specs.OneOutcome.{AtMostOne, HasOneOutcome, IsState}
@@ -195,23 +195,23 @@ module _ (laws : LineLaws) where
 -- ---- the states of the machine
 
 -- behind the first line
-behind_state : (s : State) (a : Answer) (Behind : Answers → Type 0) (all : Answers) → IsState a.next → ((more : Answers) → Behind more → IsState (last_of a.next more.states)) → (StopsAt a all ⊎ GoesOn Behind a all) → IsState (last_of s all.states)
-behind_state s a Behind all state rest (inl p) = subst (λ (x : Answers). IsState (last_of s x.states)) (sym p.2) state
-behind_state s a Behind all state rest (inr p) = subst (λ (x : Answers). IsState (last_of s x.states)) (sym p.3) (rest p.0 p.2)
+behind_state : (s : State) (a : Answer) (Behind : Answers → Type 0) (all : Answers) → IsState a.next → ((more : Answers) → Behind more → IsState (last_state a.next more.states)) → (StopsAt a all ⊎ GoesOn Behind a all) → IsState (last_state s all.states)
+behind_state s a Behind all state rest (inl p) = subst (λ (x : Answers). IsState (last_state s x.states)) (sym p.2) state
+behind_state s a Behind all state rest (inr p) = subst (λ (x : Answers). IsState (last_state s x.states)) (sym p.3) (rest p.0 p.2)
 
-lines_state : (lines : List CallLine) (s : State) (all : Answers) → IsState s → AnswersLines lines s all → IsState (last_of s all.states)
-lines_state [] s all state h = subst (λ (x : Answers). IsState (last_of s x.states)) (sym h) state
+lines_state : (lines : List CallLine) (s : State) (all : Answers) → IsState s → AnswersLines lines s all → IsState (last_state s all.states)
+lines_state [] s all state h = subst (λ (x : Answers). IsState (last_state s x.states)) (sym h) state
 lines_state (l ∷ lines) s all state h = behind_state s h.0 (AnswersLines lines h.0.next) all h.1.keeps (λ more is. lines_state lines h.0.next more h.1.keeps is) h.2
 
-made_state : (lines : Result (List CallLine) Refusal) (s : State) (all : Answers) → IsState s → AnswersMade lines s all → IsState (last_of s all.states)
+made_state : (lines : Result (List CallLine) Refusal) (s : State) (all : Answers) → IsState s → AnswersMade lines s all → IsState (last_state s all.states)
 made_state (Ok lines) s all state h = lines_state lines s all state h
-made_state (Err r) s all state h = subst (λ (x : Answers). IsState (last_of s x.states)) (sym h) state
+made_state (Err r) s all state h = subst (λ (x : Answers). IsState (last_state s x.states)) (sym h) state
 
-call_state_by : (expected : Result Call Failure) (l : Line) (s : State) (all : Answers) → IsState s → AnswersCallBy expected l s all → IsState (last_of s all.states)
+call_state_by : (expected : Result Call Failure) (l : Line) (s : State) (all : Answers) → IsState s → AnswersCallBy expected l s all → IsState (last_state s all.states)
 call_state_by (Ok c) l s all state h = made_state h.0 s all state h.2
-call_state_by (Err e) l s all state h = subst (λ (x : Answers). IsState (last_of s x.states)) (sym h) state
+call_state_by (Err e) l s all state h = subst (λ (x : Answers). IsState (last_state s x.states)) (sym h) state
 
-pub call_keeps : (l : Line) (s : State) (all : Answers) → IsState s → AnswersCall l s all → IsState (last_of s all.states)
+pub call_keeps : (l : Line) (s : State) (all : Answers) → IsState s → AnswersCall l s all → IsState (last_state s all.states)
 call_keeps l s all state h = call_state_by h.expected l s all state h.is
 
 after_lines_keeps : (count : ℕ) (lines : List CallLine) (s t : State) → IsState s → AfterLines count lines s t → IsState t
@@ -297,7 +297,7 @@ module _ (laws : LineLaws) where
     answered_once (called l ∷ events) (a ∷ said) [] s t u state h g = absurd g
     answered_once (called l ∷ events) (a ∷ said) (b ∷ other) s t u state h g =
         let same : a ≡ b = call_once laws reading l s state a b h.0 g.0 in
-        let rest = answered_once events said other (last_of s b.states) t u (call_keeps l s b state g.0) (subst (λ (x : Answers). Answered events said (last_of s x.states) t) same h.1) g.1 in
+        let rest = answered_once events said other (last_state s b.states) t u (call_keeps l s b state g.0) (subst (λ (x : Answers). Answered events said (last_state s x.states) t) same h.1) g.1 in
         let behind = rest.0 in
         (λ i. same i ∷ behind i, rest.1)
     answered_once (crashed l ∷ events) said other s t u state h g = absurd h

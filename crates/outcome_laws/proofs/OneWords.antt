@@ -11,7 +11,7 @@ use Rattle.conary_cli.specs.cli-call.cny-laws.declared.failure.Failure.{Failure}
 use Rattle.conary_cli.specs.declared.words.Command.{Command}
 use Rattle.conary_cli.specs.declared.words.Command.TheVariants as command
 use Rattle.conary_cli.specs.Calls.{as_call, batch_of, demo_of, AreCall, AreOfKind, IsSingle}
-use Rattle.conary_cli.specs.Words.{is_input, is_resolve, options_at, AreGiven, AreLabelAndSpec, AreOfForm, AreSpecs, AreWords, IsGiven, IsMove, IsOrUsage, IsSend, IsUpdate, IsUpdateWith}
+use Rattle.conary_cli.specs.Words.{is_input, is_resolve, options_at, AreGivenSpecs, AreLabelAndSpec, AreOfForm, AreSpecs, AreWords, IsGiven, IsMove, IsOrUsage, IsSend, IsUpdate, IsUpdateWith}
 use Rattle.conary_cli.specs.cli-call.cny-base.declared.options.Options.{Options}
 use Rattle.outcome_laws.specs.OneOutcome.{AtMostOne}
 use Rattle.outcome_laws.proofs.OneSpec.{spec_once}
@@ -68,7 +68,7 @@ module _ (one_label : OneLabel) where
 
   -- ---- `update`
 
-  all_given_once : (words : List (List ℕ)) → AtMostOne (AreGiven words)
+  all_given_once : (words : List (List ℕ)) → AtMostOne (AreGivenSpecs words)
   all_given_once [] [] [] h g = refl
   all_given_once [] [] (b ∷ bs) h g = absurd g
   all_given_once [] (a ∷ as') bs h g = absurd h

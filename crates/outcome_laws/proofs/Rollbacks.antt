@@ -19,7 +19,7 @@ use Rattle.conary_cli.specs.cli-call.journal-log.Targets.{with_targets}
 use Rattle.local_db.specs.SystemState.{newest, AreNumbered, IsSystemState, StackItem, SystemState}
 use Rattle.local_db.specs.Steps.{after_rollback, after_rollbacks, backs, CanRollBack, CanRollBackAll, HasForeignEntry}
 use Rattle.conary_cli.specs.cli-call.system-core.Several.{count_to, jobs_below, jobs_to, CanTakeBackTo, HasJob, IsRefusalTo, OfTurn}
-use Rattle.conary_cli.specs.cli-call.system-core.Tests.{IsEdited, IsFirstEdited, IsFirstOrphan}
+use Rattle.conary_cli.specs.cli-call.system-core.Tests.{IsEditedSince, IsFirstEditedSince, IsFirstWithoutDirectory}
 use Rattle.conary_cli.specs.cli-call.cny-laws.State.{RootState}
 use Rattle.conary_cli.specs.root-commands.RollingBack.{meant_number, roll_back, TakesBackTo}
 use Rattle.local_db.proofs.Writes.{not_both}
@@ -34,11 +34,11 @@ use Rattle.outcome_laws.proofs.Tests.{done, refused, with_shared}
 among : (front rest : List Name) (path : Name) → Contains (front ++ path ∷ rest) path
 among front rest path = Contains-append_right front (path ∷ rest) path (contains_first path rest)
 
-edited_in : (o : StackItem) (tree : Tree) (path : Name) → All (λ p. IsEdited o tree p → ⊥) o.paths → IsFirstEdited o tree path → ⊥
-edited_in o tree path unedited e = All-contains (λ (p : Name). IsEdited o tree p → ⊥) o.paths path unedited (subst (λ (l : List Name). Contains l path) (sym e.split) (among e.front e.rest path)) e.edited
+edited_in : (o : StackItem) (tree : Tree) (path : Name) → All (λ p. IsEditedSince o tree p → ⊥) o.paths → IsFirstEditedSince o tree path → ⊥
+edited_in o tree path unedited e = All-contains (λ (p : Name). IsEditedSince o tree p → ⊥) o.paths path unedited (subst (λ (l : List Name). Contains l path) (sym e.split) (among e.front e.rest path)) e.edited
 
 -- what is edited can't be taken back
-edited_stays : (o : StackItem) (s : SystemState) (path : Name) → IsFirstEdited o s.tree path → CanRollBack o s → ⊥
+edited_stays : (o : StackItem) (s : SystemState) (path : Name) → IsFirstEditedSince o s.tree path → CanRollBack o s → ⊥
 edited_stays o s path e can = ⊎_elim
     (λ other. other (All-contains (λ (p : Name). fingerprint (get s.tree p) ≡ fingerprint (get o.after p)) o.paths path can.marks there))
     (λ foreign. All-contains (λ (p : Name). HasForeignEntry o s.tree p → ⊥) o.paths path can.no_foreign_entry there foreign)
@@ -51,19 +51,19 @@ stands : (n : Option Node) → n ≢ None → is_some n ≡ true
 stands n some = ⊎_elim (λ none. absurd (some none)) (λ is. is) (stands_or_not n)
 
 -- nor what would leave a path without its directory
-orphan_stays : (o : StackItem) (s : SystemState) (path : Name) → IsFirstOrphan o s.tree path → CanRollBack o s → ⊥
+orphan_stays : (o : StackItem) (s : SystemState) (path : Name) → IsFirstWithoutDirectory o s.tree path → CanRollBack o s → ⊥
 orphan_stays o s path e can =
     not_both (is_dir (get (with_targets (backs o) s.tree) (parent path))) (can.well_formed.parents path (stands (get (with_targets (backs o) s.tree) path) e.orphan.0)) e.orphan.1
 
-edited_once : (o : StackItem) (tree : Tree) → AtMostOne (IsFirstEdited o tree)
+edited_once : (o : StackItem) (tree : Tree) → AtMostOne (IsFirstEditedSince o tree)
 edited_once o tree p q h g = by (cuts h.front g.front p q h.rest g.rest (sym h.split ∙ g.split))
   where
     by : Cuts h.front g.front p q h.rest g.rest → p ≡ q
     by (same fronts ones rests) = ones
-    by (earlier more at rests) = absurd (All-contains (λ (x : Name). IsEdited o tree x → ⊥) g.front p g.unedited (subst (λ (l : List Name). Contains l p) (sym at) (among h.front more p)) h.edited)
-    by (later more at rests) = absurd (All-contains (λ (x : Name). IsEdited o tree x → ⊥) h.front q h.unedited (subst (λ (l : List Name). Contains l q) (sym at) (among g.front more q)) g.edited)
+    by (earlier more at rests) = absurd (All-contains (λ (x : Name). IsEditedSince o tree x → ⊥) g.front p g.unedited (subst (λ (l : List Name). Contains l p) (sym at) (among h.front more p)) h.edited)
+    by (later more at rests) = absurd (All-contains (λ (x : Name). IsEditedSince o tree x → ⊥) h.front q h.unedited (subst (λ (l : List Name). Contains l q) (sym at) (among g.front more q)) g.edited)
 
-orphan_once : (o : StackItem) (tree : Tree) → AtMostOne (IsFirstOrphan o tree)
+orphan_once : (o : StackItem) (tree : Tree) → AtMostOne (IsFirstWithoutDirectory o tree)
 orphan_once o tree p q h g = by (slice_cmp nat_cmp p q) refl
   where
     by : (c : Ordering) → slice_cmp nat_cmp p q ≡ c → p ≡ q
@@ -145,10 +145,10 @@ turn_stays s number P stays numbered can h =
     (subst (λ (l : List StackItem). CanRollBackAll l (jobs_below number s.stack) s) first can.1)))
 
 abbrev EditedAt : Name → StackItem → Tree → Type 0
-EditedAt path o tree = IsFirstEdited o tree path
+EditedAt path o tree = IsFirstEditedSince o tree path
 
 abbrev OrphanAt : Name → StackItem → Tree → Type 0
-OrphanAt path o tree = IsFirstOrphan o tree path
+OrphanAt path o tree = IsFirstWithoutDirectory o tree path
 
 module _ (s : RootState) (number : ℕ) where
   no_job_of : s.stack ≡ [] → HasJob s.stack number → ⊥

@@ -30,7 +30,7 @@ use Rattle.trove_spec.specs.RootConfig.{HasConfig}
 use Rattle.conary_cli.specs.repo-commands.Commit.{commit, Commits}
 use Rattle.conary_cli.specs.repo-commands.Cook.{cook, cooked_set, Cooks, CommitsSet}
 use Rattle.conary_cli.specs.repo-commands.Listing as committed
-use Rattle.conary_cli.specs.repo-commands.Moving.{move, set_of, IsMoved}
+use Rattle.conary_cli.specs.repo-commands.Moving.{move, set_of_troves, IsMoved}
 use Rattle.conary_cli.specs.repo-commands.Sending as sending
 use Rattle.conary_cli.specs.repo-commands.ShowChangeSet.{show_change_set, IsDescribed}
 use Rattle.conary_cli.specs.root-commands.Erase.{erase}
@@ -160,11 +160,11 @@ cook_steps next = shared_step (cook next) (λ s bytes o h. manifest_step s bytes
 pub move_steps : (way : Way) (label : LabelParts) (given : GivenSpec) → EachSteps (move way label given)
 move_steps way label given = shared_step (move way label given) (λ s bytes o h.
     and_then_step s (HasConfig (tree_of s.root))
-    (λ (config : Config). AndThen (Means (troves_of s.repository.commits) config given) (λ (root : TroveId). AndThen (IsMoved way label (troves_of s.repository.commits) root) (λ (made : List TroveParts). Commits (set_of made) s.repository)))
+    (λ (config : Config). AndThen (Means (troves_of s.repository.commits) config given) (λ (root : TroveId). AndThen (IsMoved way label (troves_of s.repository.commits) root) (λ (made : List TroveParts). Commits (set_of_troves made) s.repository)))
     (λ config p g. and_then_step s (Means (troves_of s.repository.commits) config given)
-    (λ (root : TroveId). AndThen (IsMoved way label (troves_of s.repository.commits) root) (λ (made : List TroveParts). Commits (set_of made) s.repository))
-    (λ root q i. and_then_step s (IsMoved way label (troves_of s.repository.commits) root) (λ (made : List TroveParts). Commits (set_of made) s.repository)
-    (λ made t j. commit_step s (set_of made) t j) q i) p g) o h)
+    (λ (root : TroveId). AndThen (IsMoved way label (troves_of s.repository.commits) root) (λ (made : List TroveParts). Commits (set_of_troves made) s.repository))
+    (λ root q i. and_then_step s (IsMoved way label (troves_of s.repository.commits) root) (λ (made : List TroveParts). Commits (set_of_troves made) s.repository)
+    (λ made t j. commit_step s (set_of_troves made) t j) q i) p g) o h)
 
 -- ---- commands that change nothing
 

@@ -12,7 +12,7 @@ use Rattle.trove_spec.proofs.OneConfig.{OneLabel}
 use Rattle.trove_spec.specs.declared.given.GivenSpec.{GivenSpec}
 use Rattle.trove_spec.specs.AndThen.{AndThen}
 use Rattle.trove_spec.specs.Meant.{Expands, ExpandsFrom}
-use Rattle.conary_cli.specs.repo-commands.Sending.{IsAnswered, IsSent, changeset}
+use Rattle.conary_cli.specs.repo-commands.Sending.{IsSetAnswered, IsSent, changeset}
 use Rattle.outcome_laws.specs.OneOutcome.{AtMostOne, HasOneOutcome}
 use Rattle.outcome_laws.proofs.Tests.{done, refused, with_shared, and_then_once}
 use Rattle.outcome_laws.proofs.Configurations.{configured_once}
@@ -24,7 +24,7 @@ use Rattle.repo_shadow.proofs.OneMove.{OneExpansion}
 pub effect_once : (x y : Effect) → x.change ≡ y.change → x.out ≡ y.out → x ≡ y
 effect_once x y change out = λ i. record { change = change i; out = out i }
 
-answer_once : (set : ChangeSet) → AtMostOne (IsAnswered set)
+answer_once : (set : ChangeSet) → AtMostOne (IsSetAnswered set)
 answer_once set (Ok x) (Ok y) h g = ap done (effect_once x y (h.0 ∙ sym g.0) (h.1.0.text ∙ sym g.1.0.text))
 answer_once set (Ok x) (Err q) h g = absurd (cc (sym h.1.1 ∙ g))
 answer_once set (Err p) (Ok y) h g = absurd (cc (sym g.1.1 ∙ h))
@@ -35,7 +35,7 @@ sent_once one r old fresh a b h g =
     let parts = one_parts one old fresh h.set.parts g.set.parts h.between.parts g.between.parts in
     let contents = one_contents r.contents old fresh h.set.contents g.set.contents h.between.contents g.between.contents h.held g.held in
     let same : h.set ≡ g.set = λ i. record { parts = parts i; contents = contents i } in
-    answer_once g.set a b (subst (λ (set : ChangeSet). IsAnswered set a) same h.answered) g.answered
+    answer_once g.set a b (subst (λ (set : ChangeSet). IsSetAnswered set a) same h.answered) g.answered
 
 -- ---- `changeset`
 

@@ -15,7 +15,7 @@ use Rattle.cny_batch.specs.declared.line.Line.{Line}
 use Rattle.conary_cli.specs.declared.call_words.Call.{Call}
 use Rattle.conary_cli.specs.Calls.{AreCall}
 use Rattle.conary_cli.specs.Lines.{CallLine}
-use Rattle.conary_cli.specs.Lives.{last_of}
+use Rattle.conary_cli.specs.Lives.{last_state}
 use Rattle.outcome_laws.specs.Machine.{Answer, Answers, AnswersCall, AnswersLine, HasLines}
 
 -- ---- events
@@ -75,7 +75,7 @@ abbrev pub Answered : List Event → List Answers → State → State → Type 0
 Answered [] [] s t = t ≡ s
 Answered [] (all ∷ said) s t = ⊥
 Answered (called l ∷ events) [] s t = ⊥
-Answered (called l ∷ events) (all ∷ said) s t = AnswersCall l s all × Answered events said (last_of s all.states) t
+Answered (called l ∷ events) (all ∷ said) s t = AnswersCall l s all × Answered events said (last_state s all.states) t
 Answered (crashed l ∷ events) said s t = ⊥
 Answered (altered e ∷ events) said s t = (mid : State) × AfterEdit e s mid × Answered events said mid t
 

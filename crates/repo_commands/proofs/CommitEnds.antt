@@ -20,14 +20,14 @@ use Rattle.repo_load.specs.Loading.{IsCatalogue}
 use Rattle.repo_load.specs.State.{catalogue_of, troves_of, RepositoryState}
 use Rattle.repo_load.specs.Contents.{IsDamagedContent}
 use Rattle.repository.specs.Outcome as outcome
-use Rattle.repository.specs.Outcome.{committed_contents, AtEveryMoment, EndsSo, HasMoments, IsDone}
-use Rattle.repository.specs.Steps.{after_commit, IsOldOrNew, IsStep, RecoversToEither, RecoversToRepository}
+use Rattle.repository.specs.Outcome.{committed_contents, AtEveryMoment, EndsSo, HasMoments, IsCommitDone}
+use Rattle.repository.specs.Steps.{after_commit, IsOldOrNew, IsCommitStep, RecoversToEitherRepository, RecoversToRepository}
 use Rattle.repository.specs.Tests.{IsRefused, Passes}
 use Rattle.cny_report.specs.Troves.{committed_text}
 use Rattle.cli_call.specs.cny-laws.declared.failure.Failure.{Failure}
 use Rattle.cli_call.specs.cny-laws.declared.failure.Failure.TheVariants as failure
 use Rattle.cli_call.specs.Alone.{ActsOnRepository}
-use Rattle.cli_call.specs.Command.{Disks, AreReady, Answers, Goes, HasCause, end_of}
+use Rattle.cli_call.specs.Command.{Disks, AreReady, AnswersAs, Goes, HasFailureCause, end_of}
 use Rattle.cli_call.specs.cny-laws.Report.{ChangesNothing, status_of}
 use Rattle.cli_call.proofs.Again.{IsJoined}
 use Rattle.cli_call.proofs.CommandLaws.{goes_read}
@@ -43,7 +43,7 @@ pub record CommitLaws : Type 0 where
   pub catalogue : (x : Tree) (r : RepositoryState) (c : CatalogueParts) → StoresRepository x r → HoldsCatalogue x c → c ≡ catalogue_of r.commits
   pub contents : (x : Tree) (r : RepositoryState) (name : List ℕ) (path : Name) → StoresRepository x r → IsDamagedContent (troves_of r.commits) name x path → ⊥
   pub same : (x : Tree) (r : RepositoryState) → StoresRepository x r → committed_contents (troves_of r.commits) x ≡ r.contents
-  pub one : (r : RepositoryState) (set : ChangeSet) (a b : RepositoryState) → IsStep r set a → IsStep r set b → a ≡ b
+  pub one : (r : RepositoryState) (set : ChangeSet) (a b : RepositoryState) → IsCommitStep r set a → IsCommitStep r set b → a ≡ b
   pub store : IsStore repository_store
 
 -- what is said of the commit of a change set
@@ -52,19 +52,19 @@ pub record Committing {P : Type 0} (disk : DiskModel P) (set : ChangeSet) (c c' 
   pub any_moment : IsTrue disk.tells → (r : RepositoryState) → AtEveryMoment disk set old new r
   pub within : IsTrue disk.tells → Confined disk (Among (is_within repository_base)) old new
   pub later : disk.faults old ≤ disk.faults new
-  pub causes : IfErr result (outcome.HasCause (disk.faults old) (disk.faults new))
+  pub causes : IfErr result (outcome.HasCommitCause (disk.faults old) (disk.faults new))
 
 -- ---- one repository
 
 recovers_as : (r : RepositoryState) (image : Tree) → RecoversToRepository image r → Recovers repository_store image r
 recovers_as r image rec = record { tree = rec.tree; recovers = rec.recovers; stored = rec.stores }
 
-either_as : (r next : RepositoryState) (image : Tree) → RecoversToEither r next image → OneOf repository_store r next image
+either_as : (r next : RepositoryState) (image : Tree) → RecoversToEitherRepository r next image → OneOf repository_store r next image
 either_as r next image = ⊎_elim (λ old. inl (recovers_as r image old)) (λ new. inr (recovers_as next image new))
 
 module _ (laws : CommitLaws) where
   -- the state after is the only one to which a step leads
-  toward : (r : RepositoryState) (set : ChangeSet) (next made : RepositoryState) → IsOldOrNew r set next → IsStep r set made → (image : Tree) → RecoversToEither r next image → OneOf repository_store r made image
+  toward : (r : RepositoryState) (set : ChangeSet) (next made : RepositoryState) → IsOldOrNew r set next → IsCommitStep r set made → (image : Tree) → RecoversToEitherRepository r next image → OneOf repository_store r made image
   toward r set next made is step image = ⊎_elim
       (λ old. inl (recovers_as r image old))
       (λ new. ⊎_elim
@@ -79,7 +79,7 @@ module _ (laws : CommitLaws) where
       (subst (λ (k : CatalogueParts). Q k (committed_contents k.troves x)) (laws.catalogue x r c stores holds) h)
 
 -- the effect of a step
-takes_step : (set : ChangeSet) (s : State) (next : RepositoryState) → IsStep s.repository set next → Takes (Commits set s.repository) s (record { root = s.root; repository = next }) (λ bytes. Unit {0})
+takes_step : (set : ChangeSet) (s : State) (next : RepositoryState) → IsCommitStep s.repository set next → Takes (Commits set s.repository) s (record { root = s.root; repository = next }) (λ bytes. Unit {0})
 takes_step set s next step = record {
   effect = committed s.repository set step.troves;
   is = record { troves = step.troves; passes = step.passes; is = refl };
@@ -104,14 +104,14 @@ module _ {T P : Type 0} {root_disk : DiskModel T} {repo_disk : DiskModel P} (rep
 
   -- -- committed
 
-  passes_of : (ids : List TroveId) → IsTrue repo_disk.tells → (s : State) → RestsAt repository_store repo_disk old.repo s.repository → (d : IsDone repo_disk set old.opened.catalogue c' ids old.repo new.repo) → Passes (catalogue_of s.repository.commits) s.repository.contents set d.troves
+  passes_of : (ids : List TroveId) → IsTrue repo_disk.tells → (s : State) → RestsAt repository_store repo_disk old.repo s.repository → (d : IsCommitDone repo_disk set old.opened.catalogue c' ids old.repo new.repo) → Passes (catalogue_of s.repository.commits) s.repository.contents set d.troves
   passes_of ids told s stands d = of_state laws (repo_disk.reads old.repo) s.repository old.opened.catalogue stands.stored (ready.repo told).catalogue (λ (k : CatalogueParts) (held : ContentMap). Passes k held set d.troves) d.passes
 
-  step_of : (ids : List TroveId) → IsTrue repo_disk.tells → (s : State) → RestsAt repository_store repo_disk old.repo s.repository → (d : IsDone repo_disk set old.opened.catalogue c' ids old.repo new.repo) → IsStep s.repository set (after_commit d.troves set.contents s.repository)
+  step_of : (ids : List TroveId) → IsTrue repo_disk.tells → (s : State) → RestsAt repository_store repo_disk old.repo s.repository → (d : IsCommitDone repo_disk set old.opened.catalogue c' ids old.repo new.repo) → IsCommitStep s.repository set (after_commit d.troves set.contents s.repository)
   step_of ids told s stands d = record { troves = d.troves; passes = passes_of ids told s stands d; is = refl }
 
   done_goes : (ids : List TroveId) (result : Result (List ℕ) Failure) → Committing repo_disk set old.opened.catalogue c' old.repo new.repo (Ok ids) → (told : IsTrue repo_disk.tells) (s : State) → RestsAt repository_store repo_disk old.repo s.repository
-      → (d : IsDone repo_disk set old.opened.catalogue c' ids old.repo new.repo) → Goes repository_store repo_disk s.repository (after_commit d.troves set.contents s.repository) old.repo new.repo (end_of result)
+      → (d : IsCommitDone repo_disk set old.opened.catalogue c' ids old.repo new.repo) → Goes repository_store repo_disk s.repository (after_commit d.troves set.contents s.repository) old.repo new.repo (end_of result)
   done_goes ids result done told s stands d =
       let m = moments done told s stands in
       let made = after_commit d.troves set.contents s.repository in
@@ -127,7 +127,7 @@ module _ {T P : Type 0} {root_disk : DiskModel T} {repo_disk : DiskModel P} (rep
 
   done_settled : (ids : List TroveId) → Committing repo_disk set old.opened.catalogue c' old.repo new.repo (Ok ids) → IsTrue repo_disk.tells → IsSettled repo_disk repository_store.base new.repo
   done_settled ids done told =
-      let d : IsDone repo_disk set old.opened.catalogue c' ids old.repo new.repo = done.ends told in record {
+      let d : IsCommitDone repo_disk set old.opened.catalogue c' ids old.repo new.repo = done.ends told in record {
         flag_clear = d.rests.flag_clear;
         synced = λ p. still_synced repo_disk old.repo new.repo p d.calm ((ready.repo told).settled.synced p);
       }
@@ -142,7 +142,7 @@ module _ {T P : Type 0} {root_disk : DiskModel T} {repo_disk : DiskModel P} (rep
     same = λ none told. absurd none;
     within = done.within;
     told = λ told s stands.
-        let d : IsDone repo_disk set old.opened.catalogue c' ids old.repo new.repo = done.ends told in record {
+        let d : IsCommitDone repo_disk set old.opened.catalogue c' ids old.repo new.repo = done.ends told in record {
           next = after_commit d.troves set.contents s.repository;
           answers = record {
             effect = committed s.repository set d.troves;
@@ -165,7 +165,7 @@ module _ {T P : Type 0} {root_disk : DiskModel T} {repo_disk : DiskModel P} (rep
     same = λ none told. absurd none;
     within = done.within;
     told = λ told s stands.
-        let d : IsDone repo_disk set old.opened.catalogue c' ids old.repo new.repo = done.ends told in
+        let d : IsCommitDone repo_disk set old.opened.catalogue c' ids old.repo new.repo = done.ends told in
         let step = step_of ids told s stands d in record {
           next = after_commit d.troves set.contents s.repository;
           answers = inr (takes_step set s (after_commit d.troves set.contents s.repository) step);
@@ -196,8 +196,8 @@ module _ {T P : Type 0} {root_disk : DiskModel T} {repo_disk : DiskModel P} (rep
   }
 
   -- a fault, or want of memory
-  module _ (result : Result (List ℕ) Failure) (low : status_of (end_of result) ≤ 4 → ⊥) (quiet : ChangesNothing (end_of result) → ⊥) (next_answers : (s next : State) → IsNext (Commits set s.repository) s next → Answers (Commits set s.repository) s next result) where
-    ended_so : (r : Result (List TroveId) Stop) → Committing repo_disk set old.opened.catalogue c' old.repo new.repo r → HasCause root_disk repo_disk old new result → ActsOnRepository root_disk repo_disk (commit_of set) input old new result
+  module _ (result : Result (List ℕ) Failure) (low : status_of (end_of result) ≤ 4 → ⊥) (quiet : ChangesNothing (end_of result) → ⊥) (next_answers : (s next : State) → IsNext (Commits set s.repository) s next → AnswersAs (Commits set s.repository) s next result) where
+    ended_so : (r : Result (List TroveId) Stop) → Committing repo_disk set old.opened.catalogue c' old.repo new.repo r → HasFailureCause root_disk repo_disk old new result → ActsOnRepository root_disk repo_disk (commit_of set) input old new result
     ended_so r done cause = record {
       root = root_same;
       later = done.later;

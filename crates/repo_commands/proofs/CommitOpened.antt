@@ -20,7 +20,7 @@ use Rattle.repo_index.specs.Catalogue.{CatalogueParts, has_content}
 use Rattle.repo_load.specs.Files.{contents_dir, HoldsCatalogue}
 use Rattle.repo_load.specs.State.{catalogue_of, RepositoryState}
 use Rattle.repo_load.proofs.Following.{troves_push}
-use Rattle.repository.specs.Outcome.{committed_contents, EndsSo, IsDone, StopsSo}
+use Rattle.repository.specs.Outcome.{committed_contents, EndsSo, IsCommitDone, CommitStopsSo}
 use Rattle.repository.specs.Preparing.{IsWrittenName}
 use Rattle.repository.specs.Steps.{after_commit, catalogue_after}
 use Rattle.repository.specs.Tests.{later_refusal, IsRefused, Passes}
@@ -92,7 +92,7 @@ module _ {T P : Type 0} {root_disk : DiskModel T} {repo_disk : DiskModel P} (set
   root_reads : IsTrue root_disk.tells → root_disk.reads new.root ≡ root_disk.reads old.root
   root_reads told = ap root_disk.reads root_same
 
-  told_by : (ids : List TroveId) (text : List ℕ) → IsDone repo_disk set old.opened.catalogue c' ids old.repo new.repo → text ≡ committed_text ids → Answered (Ok text)
+  told_by : (ids : List TroveId) (text : List ℕ) → IsCommitDone repo_disk set old.opened.catalogue c' ids old.repo new.repo → text ≡ committed_text ids → Answered (Ok text)
   told_by ids text d is told s has = record {
     next = record { root = s.root; repository = after_commit d.troves set.contents s.repository };
     answers = record {
@@ -112,7 +112,7 @@ module _ {T P : Type 0} {root_disk : DiskModel T} {repo_disk : DiskModel P} (set
     };
   }
 
-  stopped : (e : Stop) → StopsSo repo_disk set old.opened.catalogue c' old.repo new.repo e → Answered (Err (repository_failure e))
+  stopped : (e : Stop) → CommitStopsSo repo_disk set old.opened.catalogue c' old.repo new.repo e → Answered (Err (repository_failure e))
   stopped (stop.Refused refused) ends = refused_opened (commit_of set) input old new ready root_reads (λ told. ends.0.same.reads) refused
       (λ told s has. of_commits s has (λ k. IsRefused k s.repository.contents set refused) (refused_same set none old.opened.catalogue there s.repository.contents refused ends.0.answer))
   stopped (stop.Damaged path) ends = let source = ends.0.answer in absurd (nothing_in source.content (subst (λ (l : List Carried). Contains l source.content) none source.listed))
@@ -127,5 +127,5 @@ module _ {T P : Type 0} {root_disk : DiskModel T} {repo_disk : DiskModel P} (set
   failed_opened (Err e) ends f is = subst (λ (x : Result (List TroveId) Failure). IfErr x (λ k. Answered (Err k))) is (stopped e ends)
 
   pub told_opened : (r : Result (List TroveId) Stop) → Ends r → (ids : List TroveId) → repository_result r ≡ Ok ids → (text : List ℕ) → text ≡ committed_text ids → Answered (Ok text)
-  told_opened (Ok made) ends ids is text text_is = told_by ids text (subst (λ (x : Result (List TroveId) Failure). IfOk x (λ k. IsDone repo_disk set old.opened.catalogue c' k old.repo new.repo)) is ends) text_is
+  told_opened (Ok made) ends ids is text text_is = told_by ids text (subst (λ (x : Result (List TroveId) Failure). IfOk x (λ k. IsCommitDone repo_disk set old.opened.catalogue c' k old.repo new.repo)) is ends) text_is
   told_opened (Err e) ends ids is text text_is = absurd (cc is)

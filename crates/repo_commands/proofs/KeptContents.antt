@@ -11,13 +11,13 @@ use Rattle.cli_call.specs.change-set.declared.change.Part.TheVariants.{Whole}
 use Rattle.cli_call.specs.change-set.ChangeSet.{has_record, HasContents}
 use Rattle.repo_index.specs.Next.{next_refusal, next_version, trove_with, unless_refused}
 use Rattle.repo_index.specs.Steps.{IsErrOrMemory}
-use Rattle.repo_commands.specs.Cook.{cooked_troves, set_of, set_of_result}
+use Rattle.repo_commands.specs.Cook.{cooked_troves, set_carrying, set_of_result}
 
 same_records : (v : WholeVersion) (name : List ℕ) (size : ℕ) (troves : List TroveParts) → list_any (has_record name size) (map Whole (map (trove_with v) troves)) ≡ list_any (has_record name size) (map Whole troves)
 same_records v name size [] = refl
 same_records v name size (t ∷ troves) = ap (λ (b : Bool). has_record name size (Whole t) || b) (same_records v name size troves)
 
-kept : (v : WholeVersion) (contents : List Carried) (troves : List TroveParts) → HasContents (set_of contents troves) → HasContents (set_of contents (map (trove_with v) troves))
+kept : (v : WholeVersion) (contents : List Carried) (troves : List TroveParts) → HasContents (set_carrying contents troves) → HasContents (set_carrying contents (map (trove_with v) troves))
 kept v contents troves has = record {
   contents = λ k d within.
       let old = has.contents k d within in record {
@@ -36,12 +36,12 @@ unrefused None x y is = same_ok (Ok x) x y refl is
 unrefused (Some refusal) x y is = absurd (cc is)
 
 -- so what is cooked carries the contents of its troves
-pub cooked_contents : (next : Bool) (committed : List TroveParts) (contents : List Carried) (troves made : List TroveParts) → HasContents (set_of contents troves) → cooked_troves next committed troves ≡ Ok made → HasContents (set_of contents made)
-cooked_contents false committed contents troves made has is = subst (λ (l : List TroveParts). HasContents (set_of contents l)) (same_ok (Ok troves) troves made refl is) has
-cooked_contents true committed contents [] made has is = subst (λ (l : List TroveParts). HasContents (set_of contents l)) (same_ok (Ok []) [] made refl is) has
+pub cooked_contents : (next : Bool) (committed : List TroveParts) (contents : List Carried) (troves made : List TroveParts) → HasContents (set_carrying contents troves) → cooked_troves next committed troves ≡ Ok made → HasContents (set_carrying contents made)
+cooked_contents false committed contents troves made has is = subst (λ (l : List TroveParts). HasContents (set_carrying contents l)) (same_ok (Ok troves) troves made refl is) has
+cooked_contents true committed contents [] made has is = subst (λ (l : List TroveParts). HasContents (set_carrying contents l)) (same_ok (Ok []) [] made refl is) has
 cooked_contents true committed contents (first ∷ troves) made has is =
     let v = next_version first.id committed in
-    subst (λ (l : List TroveParts). HasContents (set_of contents l)) (unrefused (next_refusal first.id committed) (map (trove_with v) (first ∷ troves)) made is)
+    subst (λ (l : List TroveParts). HasContents (set_carrying contents l)) (unrefused (next_refusal first.id committed) (map (trove_with v) (first ∷ troves)) made is)
     (kept v contents (first ∷ troves) has)
 
 -- where there are no troves there is no change set

@@ -32,18 +32,18 @@ use Rattle.cli_call.specs.cny-laws.Stores.{repository_store}
 use Rattle.trove_spec.specs.declared.given.GivenSpec.{GivenSpec}
 use Rattle.trove_spec.specs.AndThen.{AndThen, EndsAs}
 use Rattle.trove_spec.specs.Meant.{Means}
-use Rattle.repo_commands.specs.Moving.{move, set_of, IsMoved, Moves}
+use Rattle.repo_commands.specs.Moving.{move, set_of_troves, IsMoved, Moves}
 use Rattle.cli_call.proofs.AfterReading.{performs_since}
 use Rattle.cli_call.proofs.OpenedEnds.{fault_opened, opened_since}
 use Rattle.cli_call.proofs.ReadingEnds.{CatalogueIs, config_of, config_opened, fault_ends, root_read, troves_are}
 use Rattle.repository.proofs.change-set.Carrying.{no_carried as nothing_rises}
 
 -- a set without contents carries just those of its parts
-pub no_contents : (troves : List TroveParts) → HasContents (set_of troves)
-no_contents troves = record { contents = All-nil (IsContentOf ((set_of troves).parts)); rising = nothing_rises }
+pub no_contents : (troves : List TroveParts) → HasContents (set_of_troves troves)
+no_contents troves = record { contents = All-nil (IsContentOf ((set_of_troves troves).parts)); rising = nothing_rises }
 
 -- the change set of these parts, without contents
-pub set_is : (set : ChangeSet) (troves : List TroveParts) → set.parts ≡ map Whole troves → set.contents ≡ [] → set ≡ set_of troves
+pub set_is : (set : ChangeSet) (troves : List TroveParts) → set.parts ≡ map Whole troves → set.contents ≡ [] → set ≡ set_of_troves troves
 set_is set troves parts contents = λ i. record { parts = parts i; contents = contents i }
 
 pub unmoved : (way : Way) (label : LabelParts) (troves : List TroveParts) (root : TroveId) (f : Fault) → IsUnmoved way label troves root f → EndsAs (IsMoved way label troves root) (Err f)
@@ -61,7 +61,7 @@ module _ {T P : Type 0} {root_disk : DiskModel T} {repo_disk : DiskModel P} (roo
   same_troves told s stands = troves_are law (disks root repo opened) ready told s stands
 
   with_config : IsTrue root_disk.tells → (s : State) → StandsFor root_disk repo_disk (disks root repo opened) s → (outcome : Result Effect Refusal)
-      → AndThen (Means (troves_of s.repository.commits) config given) (λ (id : TroveId). AndThen (IsMoved way label (troves_of s.repository.commits) id) (λ (made : List TroveParts). Commits (set_of made) s.repository)) outcome
+      → AndThen (Means (troves_of s.repository.commits) config given) (λ (id : TroveId). AndThen (IsMoved way label (troves_of s.repository.commits) id) (λ (made : List TroveParts). Commits (set_of_troves made) s.repository)) outcome
       → Moves s way label given outcome
   with_config told s stands outcome rest = inl (record { value = config; found = config_of (disks root repo opened) (Ok config) (configured.ends told) s stands; rest = rest })
 
@@ -78,7 +78,7 @@ module _ {T P : Type 0} {root_disk : DiskModel T} {repo_disk : DiskModel P} (roo
 
   module _ (id : TroveId) (is_meant : Means opened.catalogue.troves config given (Ok id)) where
     with_root : IsTrue root_disk.tells → IsTrue repo_disk.tells → (s : State) → StandsFor root_disk repo_disk (disks root repo opened) s → (outcome : Result Effect Refusal)
-        → AndThen (IsMoved way label (troves_of s.repository.commits) id) (λ (made : List TroveParts). Commits (set_of made) s.repository) outcome → Moves s way label given outcome
+        → AndThen (IsMoved way label (troves_of s.repository.commits) id) (λ (made : List TroveParts). Commits (set_of_troves made) s.repository) outcome → Moves s way label given outcome
     with_root told repo_told s stands outcome rest = with_config told s stands outcome (inl (record {
       value = id;
       found = subst (λ (l : List TroveParts). Means l config given (Ok id)) (same_troves repo_told s stands) is_meant;
@@ -99,8 +99,8 @@ module _ {T P : Type 0} {root_disk : DiskModel T} {repo_disk : DiskModel P} (roo
 
     -- what was moved is committed
     pub moved_ends : (made : List TroveParts) → IsMovedExpansion way label opened.catalogue.troves id made → (new : Disks T P) (result : Result (List ℕ) Failure)
-        → Performs root_disk repo_disk (commit_of (set_of made)) input (disks root' repo opened) new result → Performs root_disk repo_disk (move way label given) input (disks root repo opened) new result
-    moved_ends made is new result done = performs_since root_disk_laws repo_disk_laws store_laws (disks root repo opened) (disks root' repo opened) new only_read result (commit_of (set_of made)) (move way label given) input input
+        → Performs root_disk repo_disk (commit_of (set_of_troves made)) input (disks root' repo opened) new result → Performs root_disk repo_disk (move way label given) input (disks root repo opened) new result
+    moved_ends made is new result done = performs_since root_disk_laws repo_disk_laws store_laws (disks root repo opened) (disks root' repo opened) new only_read result (commit_of (set_of_troves made)) (move way label given) input input
         (λ told repo_told s stands outcome commits. with_root told repo_told s stands outcome (inl (record {
           value = made;
           found = subst (λ (l : List TroveParts). IsMoved way label l id (Ok made)) (same_troves repo_told s stands) is;
@@ -112,20 +112,20 @@ module _ {T P : Type 0} {root_disk : DiskModel T} {repo_disk : DiskModel P} (roo
 
 -- by a state that has the configuration and the troves which were read
 module _ (way : Way) (label : LabelParts) (given : GivenSpec) (s : State) (troves : List TroveParts) (same : troves ≡ troves_of s.repository.commits) (config : Config) (found : HasConfig (tree_of s.root) (Ok config)) where
-  with_found : (outcome : Result Effect Refusal) → AndThen (Means (troves_of s.repository.commits) config given) (λ (id : TroveId). AndThen (IsMoved way label (troves_of s.repository.commits) id) (λ (made : List TroveParts). Commits (set_of made) s.repository)) outcome → Moves s way label given outcome
+  with_found : (outcome : Result Effect Refusal) → AndThen (Means (troves_of s.repository.commits) config given) (λ (id : TroveId). AndThen (IsMoved way label (troves_of s.repository.commits) id) (λ (made : List TroveParts). Commits (set_of_troves made) s.repository)) outcome → Moves s way label given outcome
   with_found outcome rest = inl (record { value = config; found = found; rest = rest })
 
   pub unmeant_so : (refused : Refusal) → Means troves config given (Err refused) → Moves s way label given (Err refused)
   unmeant_so refused fails = with_found (Err refused) (inr (record { refusal = refused; refused = subst (λ (l : List TroveParts). Means l config given (Err refused)) same fails; is = refl }))
 
   module _ (id : TroveId) (is_meant : Means troves config given (Ok id)) where
-    with_meant : (outcome : Result Effect Refusal) → AndThen (IsMoved way label (troves_of s.repository.commits) id) (λ (made : List TroveParts). Commits (set_of made) s.repository) outcome → Moves s way label given outcome
+    with_meant : (outcome : Result Effect Refusal) → AndThen (IsMoved way label (troves_of s.repository.commits) id) (λ (made : List TroveParts). Commits (set_of_troves made) s.repository) outcome → Moves s way label given outcome
     with_meant outcome rest = with_found outcome (inl (record { value = id; found = subst (λ (l : List TroveParts). Means l config given (Ok id)) same is_meant; rest = rest }))
 
     pub unmoved_so : (refused : Refusal) → IsMoved way label troves id (Err refused) → Moves s way label given (Err refused)
     unmoved_so refused fails = with_meant (Err refused) (inr (record { refusal = refused; refused = subst (λ (l : List TroveParts). IsMoved way label l id (Err refused)) same fails; is = refl }))
 
-    pub moved_so : (made : List TroveParts) → IsMovedExpansion way label troves id made → (outcome : Result Effect Refusal) → Commits (set_of made) s.repository outcome → Moves s way label given outcome
+    pub moved_so : (made : List TroveParts) → IsMovedExpansion way label troves id made → (outcome : Result Effect Refusal) → Commits (set_of_troves made) s.repository outcome → Moves s way label given outcome
     moved_so made is outcome commits = with_meant outcome (inl (record { value = made; found = subst (λ (l : List TroveParts). IsMoved way label l id (Ok made)) same is; rest = commits }))
 
 module _ {T P : Type 0} {root_disk : DiskModel T} {repo_disk : DiskModel P} (root_disk_laws : IsDisk root_disk) (repo_disk_laws : IsDisk repo_disk) (way : Way) (label : LabelParts) (given : GivenSpec) (input : List ℕ)
@@ -151,7 +151,7 @@ module _ {T P : Type 0} {root_disk : DiskModel T} {repo_disk : DiskModel P} (roo
     moved_opened f ends = fails_opened f (λ refused is s same found. unmoved_so way label given s opened.catalogue.troves same config found id is_meant refused (subst (λ (g : Fault). EndsAs (IsMoved way label opened.catalogue.troves id) (Err g)) is ends))
 
     pub committed_opened : (made : List TroveParts) → IsMovedExpansion way label opened.catalogue.troves id made → (new : Disks T P) (result : Result (List ℕ) Failure)
-        → AnswersByOpened root_disk repo_disk (commit_of (set_of made)) input (disks root' repo opened) new result → AnswersByOpened root_disk repo_disk (move way label given) input (disks root repo opened) new result
-    committed_opened made is new result done = opened_since (commit_of (set_of made)) (move way label given) input input (disks root repo opened) (disks root' repo opened) new result
+        → AnswersByOpened root_disk repo_disk (commit_of (set_of_troves made)) input (disks root' repo opened) new result → AnswersByOpened root_disk repo_disk (move way label given) input (disks root repo opened) new result
+    committed_opened made is new result done = opened_since (commit_of (set_of_troves made)) (move way label given) input input (disks root repo opened) (disks root' repo opened) new result
         (root_read root_disk_laws repo_disk_laws root root' repo opened configured.later configured.same) refl
         (λ told s has outcome commits. moved_so way label given s opened.catalogue.troves (troves_in s has) config (found_in told s has) id is_meant made is outcome commits) done

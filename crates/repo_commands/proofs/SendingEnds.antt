@@ -15,7 +15,7 @@ use Rattle.cli_call.specs.change-set.declared.change.ChangeSet.{ChangeSet}
 use Rattle.repo_index.specs.Catalogue.{AreCommitted, CatalogueParts}
 use Rattle.repo_load.specs.Files.{HoldsCatalogue, StoresRepository}
 use Rattle.repo_load.specs.State.{troves_of, RepositoryState}
-use Rattle.repository.specs.Between.{HasStored, IsBetween}
+use Rattle.repository.specs.Between.{HasStored, LeadsBetween}
 use Rattle.repository.specs.Damage.{IsDamagedBetween}
 use Rattle.trove_spec.specs.RootConfig.{HasConfig, ReadsConfig}
 use Rattle.cli_call.specs.cny-laws.declared.failure.Failure.TheVariants as failure
@@ -31,7 +31,7 @@ use Rattle.cli_call.specs.cny-laws.Stores.{HasUnsoundContent, repository_store}
 use Rattle.trove_spec.specs.declared.given.GivenSpec.{GivenSpec}
 use Rattle.trove_spec.specs.AndThen.{AndThen, EndsAs}
 use Rattle.trove_spec.specs.Meant.{Expands, ExpandsFrom}
-use Rattle.repo_commands.specs.Sending.{changeset, IsSent, IsSentFrom, IsWritten, IsAnswered, Sends, SendsFrom}
+use Rattle.repo_commands.specs.Sending.{changeset, IsSent, IsSentFrom, IsSetWritten, IsSetAnswered, Sends, SendsFrom}
 use Rattle.cli_call.proofs.ReadingEnds.{CatalogueIs, config_of, fault_ends, root_read, troves_are}
 use Rattle.repository.proofs.BetweenCarrying.{records_sized}
 
@@ -39,7 +39,7 @@ use Rattle.repository.proofs.BetweenCarrying.{records_sized}
 pub record SendingLaws : Type 0 where
   pub catalogue : CatalogueIs
   pub undamaged : (x : Tree) (r : RepositoryState) (old fresh : List TroveParts) (path : Name) → StoresRepository x r → AreCommitted (troves_of r.commits) fresh → IsDamagedBetween old fresh x path → ⊥
-  pub contents : (x : Tree) (r : RepositoryState) (old fresh : List TroveParts) (set : ChangeSet) → StoresRepository x r → AreCommitted (troves_of r.commits) fresh → IsBetween old fresh set → HasStored x set
+  pub contents : (x : Tree) (r : RepositoryState) (old fresh : List TroveParts) (set : ChangeSet) → StoresRepository x r → AreCommitted (troves_of r.commits) fresh → LeadsBetween old fresh set → HasStored x set
       → All (λ (content : Carried). r.contents content.name ≡ Some content.bytes) set.contents
   pub store : IsStore repository_store
 
@@ -60,7 +60,7 @@ unsound tree catalogue old fresh path holds committed d = record {
 pub refused_config : (from : Option GivenSpec) (to : GivenSpec) (s : State) (refused : Refusal) → HasConfig (tree_of s.root) (Err refused) → Sends s from to (Err refused)
 refused_config from to s refused has = inr (record { refusal = refused; refused = has; is = refl })
 
-answered : (set : ChangeSet) (bytes : List ℕ) → IsWritten set (Ok bytes) → IsAnswered set (Ok (record { change = nothing; out = bytes }))
+answered : (set : ChangeSet) (bytes : List ℕ) → IsSetWritten set (Ok bytes) → IsSetAnswered set (Ok (record { change = nothing; out = bytes }))
 answered set bytes written = (refl, written)
 
 module _ {T P : Type 0} {root_disk : DiskModel T} {repo_disk : DiskModel P} (root_disk_laws : IsDisk root_disk) (repo_disk_laws : IsDisk repo_disk) (laws : SendingLaws) (from : Option GivenSpec) (to : GivenSpec) (input : List ℕ)
@@ -118,7 +118,7 @@ module _ {T P : Type 0} {root_disk : DiskModel T} {repo_disk : DiskModel P} (roo
       }))
 
       of_state : IsTrue repo_disk.tells → (s : State) → StandsFor root_disk repo_disk (disks root repo opened) s → (result : Result (List ℕ) Refusal) → IsSentFrom (repo_disk.reads repo) old fresh result
-          → (outcome : Result Effect Refusal) → ((set : ChangeSet) → IsWritten set result → IsAnswered set outcome) → IsSent s.repository old fresh outcome
+          → (outcome : Result Effect Refusal) → ((set : ChangeSet) → IsSetWritten set result → IsSetAnswered set outcome) → IsSent s.repository old fresh outcome
       of_state told s stands result from_tree outcome by_bytes = record {
         set = from_tree.set;
         between = from_tree.between;

@@ -15,14 +15,14 @@ abbrev pub committed : RepositoryState → ChangeSet → List TroveParts → Eff
 committed r set troves = record { change = on_repository (after_commit troves set.contents r); out = committed_text (ids_of troves) }
 
 -- the change set makes troves of the repository, no test fails, and they are committed
-pub record IsCommitted (r : RepositoryState) (set : ChangeSet) (effect : Effect) : Type 0 where
+pub record IsCommitEffect (r : RepositoryState) (set : ChangeSet) (effect : Effect) : Type 0 where
   pub troves : List TroveParts
   pub passes : Passes (catalogue_of r.commits) r.contents set troves
   pub is : effect ≡ committed r set troves
 
 -- the outcome of a commit of a change set: its effect, or the first test that fails
 abbrev pub Commits : ChangeSet → RepositoryState → Result Effect Refusal → Type 0
-Commits set r (Ok effect) = IsCommitted r set effect
+Commits set r (Ok effect) = IsCommitEffect r set effect
 Commits set r (Err refusal) = IsRefused (catalogue_of r.commits) r.contents set refusal
 
 -- the commit of one change set, whatever the input

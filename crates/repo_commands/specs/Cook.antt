@@ -18,11 +18,11 @@ cooked_troves false committed troves = Ok troves
 cooked_troves true committed troves = next_troves committed troves
 
 -- a change set of whole troves, with these contents
-abbrev pub set_of : List Carried → List TroveParts → ChangeSet
-set_of contents troves = record { parts = map Whole troves; contents = contents }
+abbrev pub set_carrying : List Carried → List TroveParts → ChangeSet
+set_carrying contents troves = record { parts = map Whole troves; contents = contents }
 
 abbrev pub set_of_result : List Carried → Result (List TroveParts) Refusal → Result ChangeSet Refusal
-set_of_result contents (Ok troves) = Ok (set_of contents troves)
+set_of_result contents (Ok troves) = Ok (set_carrying contents troves)
 set_of_result contents (Err refusal) = Err refusal
 
 -- the change set that is committed, or why there is none

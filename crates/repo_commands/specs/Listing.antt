@@ -16,8 +16,8 @@ line_of None = []
 line_of (Some trove) = troves_text (trove ∷ [])
 
 -- the text is that of the troves
-abbrev pub IsTextOf : List TroveParts → Result (List ℕ) OutOfMemory → Type 0
-IsTextOf troves result = IfOk result (λ text. text ≡ troves_text troves)
+abbrev pub IsTextOfTroves : List TroveParts → Result (List ℕ) OutOfMemory → Type 0
+IsTextOfTroves troves result = IfOk result (λ text. text ≡ troves_text troves)
 
 -- a line for each of the troves of a name; there is one at least
 abbrev pub listed_of : List ℕ → List TroveParts → Result Effect Refusal

@@ -23,8 +23,8 @@ IsMoved way label troves root (Ok made) = IsMovedExpansion way label troves root
 IsMoved way label troves root (Err refused) = IsMoveRefusal way label troves root refused
 
 -- the change set that makes these troves, and carries no content: each is committed already
-abbrev pub set_of : List TroveParts → ChangeSet
-set_of troves = record { parts = map Whole troves; contents = [] }
+abbrev pub set_of_troves : List TroveParts → ChangeSet
+set_of_troves troves = record { parts = map Whole troves; contents = [] }
 
 -- What the specification means is moved, and committed: first the configuration is read, then what is meant is looked for.
 abbrev pub Moves : State → Way → LabelParts → GivenSpec → Result Effect Refusal → Type 0
@@ -32,7 +32,7 @@ Moves s way label given =
     AndThen (HasConfig (tree_of s.root)) (λ (config : Config).
     AndThen (Means (troves_of s.repository.commits) config given) (λ (root : TroveId).
     AndThen (IsMoved way label (troves_of s.repository.commits) root) (λ (made : List TroveParts).
-    Commits (set_of made) s.repository)))
+    Commits (set_of_troves made) s.repository)))
 
 -- What a specification means, with all that it reaches, as shadows on a label or as branches onto it.
 abbrev pub move : Way → LabelParts → GivenSpec → Meaning

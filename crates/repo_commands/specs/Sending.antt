@@ -13,7 +13,7 @@ use Rattle.cli_call.specs.change-set.TooLarge.{too_large}
 use Rattle.cli_call.specs.change-set.declared.change.Carried.{Carried}
 use Rattle.cli_call.specs.change-set.declared.change.ChangeSet.{ChangeSet}
 use Rattle.repo_load.specs.State.{troves_of, RepositoryState}
-use Rattle.repository.specs.Between.{HasStored, IsBetween}
+use Rattle.repository.specs.Between.{HasStored, LeadsBetween}
 use Rattle.repository.specs.Damage.{IsDamagedBetween}
 use Rattle.trove_spec.specs.RootConfig.{HasConfig}
 use Rattle.cli_call.specs.cny-laws.State.{nothing, tree_of, Effect, Meaning, State}
@@ -24,21 +24,21 @@ use Rattle.trove_spec.specs.Meant.{Expands, ExpandsFrom}
 -- ---- the set
 
 -- the stream of a change set, or that it is too large to have one
-abbrev pub IsWritten : ChangeSet → Result (List ℕ) Refusal → Type 0
-IsWritten set (Ok bytes) = IsSetStream set bytes × (too_large set ≡ None)
-IsWritten set (Err refused) = too_large set ≡ Some refused
+abbrev pub IsSetWritten : ChangeSet → Result (List ℕ) Refusal → Type 0
+IsSetWritten set (Ok bytes) = IsSetStream set bytes × (too_large set ≡ None)
+IsSetWritten set (Err refused) = too_large set ≡ Some refused
 
 -- nothing changes, and such a stream is answered
-abbrev pub IsAnswered : ChangeSet → Result Effect Refusal → Type 0
-IsAnswered set (Ok effect) = (effect.change ≡ nothing) × IsWritten set (Ok effect.out)
-IsAnswered set (Err refused) = IsWritten set (Err refused)
+abbrev pub IsSetAnswered : ChangeSet → Result Effect Refusal → Type 0
+IsSetAnswered set (Ok effect) = (effect.change ≡ nothing) × IsSetWritten set (Ok effect.out)
+IsSetAnswered set (Err refused) = IsSetWritten set (Err refused)
 
 -- The set that leads from the old troves to the new ones, with the contents of the repository, is answered, or too large.
 pub record IsSent (r : RepositoryState) (old fresh : List TroveParts) (outcome : Result Effect Refusal) : Type 0 where
   pub set : ChangeSet
-  pub between : IsBetween old fresh set
+  pub between : LeadsBetween old fresh set
   pub held : All (λ (content : Carried). r.contents content.name ≡ Some content.bytes) set.contents
-  pub answered : IsAnswered set outcome
+  pub answered : IsSetAnswered set outcome
 
 -- ---- the command
 
@@ -59,9 +59,9 @@ changeset from to = record { takes_input = false; IsOutcome = λ s input. Sends 
 -- the same set with what stands in a tree
 pub record IsSentFrom (tree : Tree) (old fresh : List TroveParts) (result : Result (List ℕ) Refusal) : Type 0 where
   pub set : ChangeSet
-  pub between : IsBetween old fresh set
+  pub between : LeadsBetween old fresh set
   pub stored : HasStored tree set
-  pub written : IsWritten set result
+  pub written : IsSetWritten set result
 
 -- How the sending ends: as the tree has it, where the disk tells it, or at a content of it that is damaged; else with a fault or want
 -- of memory.

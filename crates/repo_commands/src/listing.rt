@@ -7,7 +7,7 @@ ghost use Rattle.cli_call.specs.Answer.{AnswersSo};
 ghost use Rattle.cli_call.specs.Alone.{ActsOnRepository, AnswersByLists};
 ghost use Rattle.cli_call.specs.Command.{disks, AreReady};
 ghost use Rattle.repo_commands.specs.Listing as spec;
-ghost use Rattle.repo_commands.specs.Listing.{line_of, listed, IsTextOf};
+ghost use Rattle.repo_commands.specs.Listing.{line_of, listed, IsTextOfTroves};
 
 use cli_call::cny_base::{Fault, Name, OutOfMemory, Refusal, Text};
 use cli_call::tree_disk::TreeDisk;
@@ -32,7 +32,7 @@ fn push_line(alloc: Global, text: &mut String, trove: Option<&Trove>) -> Result<
 
 // A line for the trove at each of these places.
 fn text_at(alloc: Global, catalogue: &Catalogue, places: &[usize]) -> Result<Text, OutOfMemory>
-    ensures { IsTextOf (troves_at catalogue.now.troves places.now) result }
+    ensures { IsTextOfTroves (troves_at catalogue.now.troves places.now) result }
 {
     let mut text = String::new(alloc);
     let mut rest = places;

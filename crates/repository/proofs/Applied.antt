@@ -37,8 +37,8 @@ use Rattle.repo_load.specs.Files.{commit_bytes, commit_file, repository_base, Fi
 use Rattle.repo_load.specs.Steps.{commit_put}
 use Rattle.repo_load.proofs.CountedNames.{prepared_commits, prepared_flag}
 use Rattle.repo_load.proofs.FileNames.{base_is_path, commit_is_path, decimal_plain}
-use Rattle.repository.specs.Outcome.{IsAtRest}
-use Rattle.repository.specs.Preparing.{with_file, IsReadied, IsReady, IsWritten, RecoversSo}
+use Rattle.repository.specs.Outcome.{MayCommit}
+use Rattle.repository.specs.Preparing.{with_commit_file, IsPreparedFrom, IsPreparedFor, IsWrittenFrom, RecoversSo}
 use Rattle.repository.proofs.Readying.{commit_not_root}
 use Rattle.change_rel.specs.cny-base.Modes.{file_mode}
 use Rattle.tree_journal.proofs.tree-disk.Names.{parent_join, no_path as not_empty}
@@ -50,7 +50,7 @@ pub stores_itself : (t : Tree) → StoresSame repository_base t t
 stores_itself t q out = refl
 
 -- with the base made a directory nothing changes but the commit's file
-pub goal_is : (c : CatalogueParts) (troves : List TroveParts) (t : Tree) → is_dir_at t repository_base ≡ true → goal repository_base (puts_of c troves) t ≡ with_file c troves t
+pub goal_is : (c : CatalogueParts) (troves : List TroveParts) (t : Tree) → is_dir_at t repository_base ≡ true → goal repository_base (puts_of c troves) t ≡ with_commit_file c troves t
 goal_is c troves t dir = ap (λ (u : Tree). outcome repository_base (puts_of c troves) u) (base_kept repository_base t dir)
 
 -- ---- the write can be put
@@ -78,7 +78,7 @@ pub next_free : (t : Tree) (c : CatalogueParts) → HoldsCatalogue t c → get t
 next_free t c h = ap (λ (k : CatalogueParts). get t (commit_file (k.commits + 1))) h.is ∙ h.holds.last
 
 module _ {D : Type 0} {disk : DiskModel D} (laws : IsDisk disk) (c : CatalogueParts) (contents : List Carried) (troves : List TroveParts) (few : c.commits < COMMITS_LIMIT) (old mid : D)
-    (rests : IsAtRest disk c old) (confined : Confined disk (IsPreparedName c) old mid) where
+    (rests : MayCommit disk c old) (confined : Confined disk (IsPreparedName c) old mid) where
   pub number_fits : c.commits + 1 < 2 ^ 64
   number_fits = omega (arith, few)
 
@@ -97,7 +97,7 @@ module _ {D : Type 0} {disk : DiskModel D} (laws : IsDisk disk) (c : CataloguePa
   free_mid = confined.reads (commit_file (c.commits + 1)) (λ prepared. prepared_commits c (commit_file (c.commits + 1)) (omega (arith, few)) prepared (record { number = c.commits + 1; few = omega arith; is = refl }))
       ∙ next_free (disk.reads old) c rests.holds
 
-  pub can_apply : IsReady c contents (disk.reads mid) → list_all is_byte (commit_bytes troves) ≡ true → CanApply disk repository_base (puts_of c troves) mid
+  pub can_apply : IsPreparedFor c contents (disk.reads mid) → list_all is_byte (commit_bytes troves) ≡ true → CanApply disk repository_base (puts_of c troves) mid
   can_apply ready bytes =
       let t = disk.reads mid in
       let well = laws.reads_well_formed mid in
@@ -135,13 +135,13 @@ module _ {D : Type 0} {disk : DiskModel D} (laws : IsDisk disk) (c : CataloguePa
     is = inl differs.agrees;
   }
 
-  pub readied : IsReady c contents (disk.reads mid) → IsReadied c contents (disk.reads old) (disk.reads mid)
+  pub readied : IsPreparedFor c contents (disk.reads mid) → IsPreparedFrom c contents (disk.reads old) (disk.reads mid)
   readied ready = record { kept = confined.reads; ready = ready }
 
-  pub written_goal : All IsTrove troves → All FitsTrove troves → IsReady c contents (disk.reads mid) → IsWritten c contents troves (disk.reads old) (goal repository_base (puts_of c troves) (disk.reads mid))
+  pub written_goal : All IsTrove troves → All FitsTrove troves → IsPreparedFor c contents (disk.reads mid) → IsWrittenFrom c contents troves (disk.reads old) (goal repository_base (puts_of c troves) (disk.reads mid))
   written_goal are fits ready = record { troves_are = are; fits = fits; readied = disk.reads mid; is_readied = readied ready; same = λ q out. ap (λ (t : Tree). get t q) (goal_is c troves (disk.reads mid) ready.base) }
 
-  pub later_image : All IsTrove troves → All FitsTrove troves → IsReady c contents (disk.reads mid) → (image : Tree) → apply.IsBeforeOrAfter disk repository_base (puts_of c troves) mid image → RecoversSo Names c contents troves (disk.reads old) image
+  pub later_image : All IsTrove troves → All FitsTrove troves → IsPreparedFor c contents (disk.reads mid) → (image : Tree) → apply.IsBeforeOrAfter disk repository_base (puts_of c troves) mid image → RecoversSo Names c contents troves (disk.reads old) image
   later_image are fits ready image (inl was) = record {
     tree = was.0;
     recovers = was.2;
@@ -152,19 +152,19 @@ module _ {D : Type 0} {disk : DiskModel D} (laws : IsDisk disk) (c : CataloguePa
       unsynced_not p out = ⊎_elim (λ un. absurd (out (confined.unsynced p un))) (λ synced. synced) (cases_Bool (disk.unsynced mid p))
   later_image are fits ready image (inr after) = record { tree = goal repository_base (puts_of c troves) (disk.reads mid); recovers = after; is = inr (written_goal are fits ready) }
 
-  pub all_moments : {new : D} → All IsTrove troves → All FitsTrove troves → IsReady c contents (disk.reads mid) → LeavesOnly disk mid new (apply.IsBeforeOrAfter disk repository_base (puts_of c troves) mid)
+  pub all_moments : {new : D} → All IsTrove troves → All FitsTrove troves → IsPreparedFor c contents (disk.reads mid) → LeavesOnly disk mid new (apply.IsBeforeOrAfter disk repository_base (puts_of c troves) mid)
       → LeavesOnly disk old new (RecoversSo Names c contents troves (disk.reads old))
   all_moments are fits ready later = leaves_then (leaves_weaker before_image confined.images) (leaves_weaker (later_image are fits ready) later)
 
   pub mid_reads : RecoversSo (IsPreparedName c) c contents troves (disk.reads old) (disk.reads mid)
   mid_reads = record { tree = disk.reads mid; recovers = at_rest (gate_stays (disk.reads mid) gate_mid) (stores_itself (disk.reads mid)); is = inl confined.reads }
 
-  pub stopped_reads : (y : Tree) → All IsTrove troves → All FitsTrove troves → IsReady c contents (disk.reads mid) → IsOneOf repository_base (puts_of c troves) (disk.reads mid) y → RecoversSo (IsPreparedName c) c contents troves (disk.reads old) y
+  pub stopped_reads : (y : Tree) → All IsTrove troves → All FitsTrove troves → IsPreparedFor c contents (disk.reads mid) → IsOneOf repository_base (puts_of c troves) (disk.reads mid) y → RecoversSo (IsPreparedName c) c contents troves (disk.reads old) y
   stopped_reads y are fits ready (inl was) = record { tree = disk.reads mid; recovers = was; is = inl confined.reads }
   stopped_reads y are fits ready (inr after) = record { tree = goal repository_base (puts_of c troves) (disk.reads mid); recovers = after; is = inr (written_goal are fits ready) }
 
-  pub done_tree : (y : Tree) → All IsTrove troves → All FitsTrove troves → IsReady c contents (disk.reads mid) → StoresSame repository_base y (goal repository_base (puts_of c troves) (disk.reads mid)) → IsWritten c contents troves (disk.reads old) y
+  pub done_tree : (y : Tree) → All IsTrove troves → All FitsTrove troves → IsPreparedFor c contents (disk.reads mid) → StoresSame repository_base y (goal repository_base (puts_of c troves) (disk.reads mid)) → IsWrittenFrom c contents troves (disk.reads old) y
   done_tree y are fits ready stores = record { troves_are = are; fits = fits; readied = disk.reads mid; is_readied = readied ready; same = λ q out. stores q out ∙ ap (λ (t : Tree). get t q) (goal_is c troves (disk.reads mid) ready.base) }
 
-  pub done_reads : (y : Tree) → All IsTrove troves → All FitsTrove troves → IsReady c contents (disk.reads mid) → is_committed repository_base y ≡ false → StoresSame repository_base y (goal repository_base (puts_of c troves) (disk.reads mid)) → RecoversSo (IsPreparedName c) c contents troves (disk.reads old) y
+  pub done_reads : (y : Tree) → All IsTrove troves → All FitsTrove troves → IsPreparedFor c contents (disk.reads mid) → is_committed repository_base y ≡ false → StoresSame repository_base y (goal repository_base (puts_of c troves) (disk.reads mid)) → RecoversSo (IsPreparedName c) c contents troves (disk.reads old) y
   done_reads y are fits ready clear stores = record { tree = y; recovers = at_rest clear (stores_itself y); is = inr (done_tree y are fits ready stores) }

@@ -22,7 +22,7 @@ use Rattle.repo_load.specs.content-store.Store.{content_path, stored}
 use Rattle.repo_index.specs.Catalogue.{AreCommitted, has_content, is_file_of, is_file_sized, names_content, records_content, trove_records, HasDistinctIds}
 use Rattle.repo_load.specs.Files.{contents_dir}
 use Rattle.repo_load.specs.Contents.{IsRecorded}
-use Rattle.repository.specs.Between.{name_of, old_files, old_of, AreContents, AreParts, AreStored, IsPartOf, IsSound, RecordsContent, Sends}
+use Rattle.repository.specs.Between.{carried_name, old_files, old_trove_of, AreContents, ArePartsBetween, AreStoredIn, IsPartOf, IsSoundContent, RecordsContent, SendsContent}
 use Rattle.repository.specs.Damage.{IsDamagedBetween}
 use Rattle.repository.specs.BetweenSteps.{AllFit, AreNames, HasOther, IsDamagedAmong, IsHashed}
 use Rattle.repository.proofs.Members.{named_record, sized_record}
@@ -35,7 +35,7 @@ use Rattle.repo_load.proofs.Holding.{some_bytes as same_bytes}
 -- ---- what is sent is recorded
 
 -- one of the new troves records it
-pub sends_records : (old fresh : List TroveParts) (name : List ℕ) → Sends old fresh name → (size : ℕ) × RecordsContent fresh name size
+pub sends_records : (old fresh : List TroveParts) (name : List ℕ) → SendsContent old fresh name → (size : ℕ) × RecordsContent fresh name size
 sends_records old fresh name s = (s.sends.2.size, record { trove = s.trove; there = s.there; file = s.sends.0; among = s.sends.1; content = s.sends.2.content })
 
 pub records_sized : (troves fresh : List TroveParts) → AreCommitted troves fresh → (name : List ℕ) (size : ℕ) → RecordsContent fresh name size → IsTrue (records_content name size troves)
@@ -57,12 +57,12 @@ all_mapped : {A B : Type 0} (f : A → B) (P : B → Type 0) (xs : List A) → A
 all_mapped f P [] all = tt
 all_mapped f P (x ∷ xs) all = (all.0, all_mapped f P xs all.1)
 
-pub rising_contents : (contents : List Carried) → IsStrictlySortedBy name_cmp (map name_of contents) → IsStrictlySortedBy content_cmp contents
+pub rising_contents : (contents : List Carried) → IsStrictlySortedBy name_cmp (map carried_name contents) → IsStrictlySortedBy content_cmp contents
 unfolding IsStrictlySortedBy
 rising_contents [] rises = tt
-rising_contents (c ∷ contents) rises = (all_mapped name_of (λ (name : List ℕ). name_cmp c.name name ≡ Less) contents rises.0, rising_contents contents rises.1)
+rising_contents (c ∷ contents) rises = (all_mapped carried_name (λ (name : List ℕ). name_cmp c.name name ≡ Less) contents rises.0, rising_contents contents rises.1)
 
-pub rising_of : (old fresh : List TroveParts) (names : List (List ℕ)) (contents : List Carried) → AreNames old fresh names → map name_of contents ≡ names → IsStrictlySortedBy content_cmp contents
+pub rising_of : (old fresh : List TroveParts) (names : List (List ℕ)) (contents : List Carried) → AreNames old fresh names → map carried_name contents ≡ names → IsStrictlySortedBy content_cmp contents
 rising_of old fresh names contents are is = rising_contents contents (subst (λ (l : List (List ℕ)). IsStrictlySortedBy name_cmp l) (sym is) are.rising)
 
 -- ---- damage
@@ -72,15 +72,15 @@ pub damaged_name : (troves old fresh : List TroveParts) (names : List (List ℕ)
 damaged_name troves old fresh names committed are tree path d =
     let sent = (are.each d.name).0 d.among in
     let r = sends_records old fresh d.name sent in
-    let recorded : (bytes : List ℕ) → IsSound fresh d.name bytes → IsRecorded troves d.name bytes = λ bytes sound. record {
+    let recorded : (bytes : List ℕ) → IsSoundContent fresh d.name bytes → IsRecorded troves d.name bytes = λ bytes sound. record {
       named = sound.named;
       recorded = subst (λ (n : ℕ). IsTrue (records_content d.name n troves)) (sym (sound.sized r.0 r.1)) (records_sized troves fresh committed d.name r.0 r.1);
     } in
     record { name = d.name; sent = sent; here = d.damaged.here; none = λ bytes stands sound. d.damaged.none bytes stands (recorded bytes sound) }
 
 -- a content that has another size than a record tells
-pub damaged_size : (old fresh : List TroveParts) (names : List (List ℕ)) (contents : List Carried) (other : List ℕ) → AreNames old fresh names → map name_of contents ≡ names → HasOther contents fresh other
-    → (tree : Tree) (path : Name) → AreStored tree contents → path ≡ content_path contents_dir other → IsDamagedBetween old fresh tree path
+pub damaged_size : (old fresh : List TroveParts) (names : List (List ℕ)) (contents : List Carried) (other : List ℕ) → AreNames old fresh names → map carried_name contents ≡ names → HasOther contents fresh other
+    → (tree : Tree) (path : Name) → AreStoredIn tree contents → path ≡ content_path contents_dir other → IsDamagedBetween old fresh tree path
 damaged_size old fresh names contents other are is h tree path stands here =
     let o = h.has.has.is in
     let c : Carried = o.content in
@@ -89,7 +89,7 @@ damaged_size old fresh names contents other are is h tree path stands here =
     let r : RecordsContent fresh c.name h.has.has.size = record { trove = h.trove; there = h.there; file = h.has.file; among = h.has.among; content = told } in
     record {
       name = c.name;
-      sent = (are.each c.name).0 (subst (λ (l : List (List ℕ)). Contains l c.name) is (contains_map name_of contents c o.among));
+      sent = (are.each c.name).0 (subst (λ (l : List (List ℕ)). Contains l c.name) is (contains_map carried_name contents c o.among));
       here = here ∙ ap (content_path contents_dir) (o.is ∙ sym o.named);
       none = λ bytes there sound. o.sized (ap (λ (l : List ℕ). length l) (same_bytes c.bytes bytes (stored tree contents_dir c.name) own there) ∙ sound.sized h.has.has.size r);
     }
@@ -99,11 +99,11 @@ damaged_size old fresh names contents other are is h tree path stands here =
 
 -- ---- the contents that are sent
 
-pub contents_are : (old fresh : List TroveParts) (names : List (List ℕ)) (contents : List Carried) → AreNames old fresh names → map name_of contents ≡ names → All IsHashed contents → AllFit contents fresh → AreContents old fresh contents
+pub contents_are : (old fresh : List TroveParts) (names : List (List ℕ)) (contents : List Carried) → AreNames old fresh names → map carried_name contents ≡ names → All IsHashed contents → AllFit contents fresh → AreContents old fresh contents
 contents_are old fresh names contents are is hashed fit = record {
   rising = rising_of old fresh names contents are is;
-  each = λ name. subst (λ (l : List (List ℕ)). Contains l name ↔ Sends old fresh name) (sym is) (are.each name);
-  sound = all_from (λ (c : Carried). IsSound fresh c.name c.bytes) contents (λ c among. record {
+  each = λ name. subst (λ (l : List (List ℕ)). Contains l name ↔ SendsContent old fresh name) (sym is) (are.each name);
+  sound = all_from (λ (c : Carried). IsSoundContent fresh c.name c.bytes) contents (λ c among. record {
     named = (All-contains IsHashed contents c hashed among).hash;
     sized = λ size r. fit r.trove r.there r.file r.among c.name size r.content c among refl;
   });
@@ -126,13 +126,13 @@ same_trove troves distinct t u h g same =
 module _ (troves old : List TroveParts) (committed : AreCommitted troves old) (distinct : HasDistinctIds troves) where
   -- a part records the content of a file that the old trove of its name lacks
   part_records : (t : TroveParts) → Contains troves t → (file : FileAt) → Contains t.files file → (name : List ℕ) (size : ℕ) → content_of file.rec ≡ Some (name, size)
-      → (Records (old_files old t) (path_of file) size name → ⊥) → (part : Option Part) → IsPartOf (old_of old t) t part → (q : Part) × (part ≡ Some q) × IsTrue (has_record name size q)
-  part_records t there file among name size content lacked part is = by (old_of old t) refl lacked part is
+      → (Records (old_files old t) (path_of file) size name → ⊥) → (part : Option Part) → IsPartOf (old_trove_of old t) t part → (q : Part) × (part ≡ Some q) × IsTrue (has_record name size q)
+  part_records t there file among name size content lacked part is = by (old_trove_of old t) refl lacked part is
     where
       sized : IsTrue (is_file_sized name size file)
       sized = sized_record file.rec name size content
 
-      by : (o : Option TroveParts) → old_of old t ≡ o → (Records (option_map_or (λ (u : TroveParts). u.files) o []) (path_of file) size name → ⊥) → (part : Option Part) → IsPartOf o t part
+      by : (o : Option TroveParts) → old_trove_of old t ≡ o → (Records (option_map_or (λ (u : TroveParts). u.files) o []) (path_of file) size name → ⊥) → (part : Option Part) → IsPartOf o t part
           → (q : Part) × (part ≡ Some q) × IsTrue (has_record name size q)
       by None e lacked None is = absurd is
       by None e lacked (Some (Relative rel)) is = absurd is
@@ -156,28 +156,28 @@ module _ (troves old : List TroveParts) (committed : AreCommitted troves old) (d
   cons_rest test (Some p) rest passes = or_later (test p) (list_any test rest) passes
 
   -- one of the parts does
-  pub parts_record : (fresh : List TroveParts) (parts : List Part) → AreParts old fresh parts → (t : TroveParts) → Contains fresh t → Contains troves t → (file : FileAt) → Contains t.files file → (name : List ℕ) (size : ℕ)
+  pub parts_record : (fresh : List TroveParts) (parts : List Part) → ArePartsBetween old fresh parts → (t : TroveParts) → Contains fresh t → Contains troves t → (file : FileAt) → Contains t.files file → (name : List ℕ) (size : ℕ)
       → content_of file.rec ≡ Some (name, size) → (Records (old_files old t) (path_of file) size name → ⊥) → IsTrue (list_any (has_record name size) parts)
   parts_record [] parts are t h there file among name size content lacked = absurd (nothing_in t h)
   parts_record (x ∷ fresh) parts are t h there file among name size content lacked =
       subst (λ (l : List Part). IsTrue (list_any (has_record name size) l)) (sym are.4) (⊎_elim
       (λ e.
-      let own : IsPartOf (old_of old t) t are.0 = subst (λ (u : TroveParts). IsPartOf (old_of old u) u are.0) e are.2 in
+      let own : IsPartOf (old_trove_of old t) t are.0 = subst (λ (u : TroveParts). IsPartOf (old_trove_of old u) u are.0) e are.2 in
       let told = part_records t there file among name size content lacked are.0 own in
       cons_first (has_record name size) are.0 told.0 are.1 told.1 told.2)
       (λ later. cons_rest (has_record name size) are.0 are.1 (parts_record fresh are.1 are.3 t later there file among name size content lacked))
       (contains_cases x t fresh h))
 
   -- so the parts and the contents are a change set
-  pub has_contents : (fresh : List TroveParts) (parts : List Part) (contents : List Carried) → AreCommitted troves fresh → AreParts old fresh parts → AreContents old fresh contents → All IsHashed contents
+  pub has_contents : (fresh : List TroveParts) (parts : List Part) (contents : List Carried) → AreCommitted troves fresh → ArePartsBetween old fresh parts → AreContents old fresh contents → All IsHashed contents
       → HasContents (record { parts = parts; contents = contents })
   unfolding sends_records
   has_contents fresh parts contents fresh_committed are carried hashed = record {
     contents = all_from (IsContentOf parts) contents (λ c among.
         let own = All-contains IsHashed contents c hashed among in
-        let sent = (carried.each c.name).0 (contains_map name_of contents c among) in
+        let sent = (carried.each c.name).0 (contains_map carried_name contents c among) in
         let r = sends_records old fresh c.name sent in
-        let size : length c.bytes ≡ r.0 = (All-contains (λ (d : Carried). IsSound fresh d.name d.bytes) contents c carried.sound among).sized r.0 r.1 in record {
+        let size : length c.bytes ≡ r.0 = (All-contains (λ (d : Carried). IsSoundContent fresh d.name d.bytes) contents c carried.sound among).sized r.0 r.1 in record {
           hash = sym own.hash;
           twenty = own.twenty;
           recorded = subst (λ (n : ℕ). IsTrue (list_any (has_record c.name n) parts)) (sym size)

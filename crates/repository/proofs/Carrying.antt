@@ -11,7 +11,7 @@ use Rattle.std.proofs.lemmas.Bool.{cases_Bool}
 use Rattle.repo_load.specs.tree-disk.Laws.{same_means}
 use Rattle.change_set.specs.declared.change.Carried.{Carried}
 use Rattle.change_set.specs.ChangeSet.{content_cmp}
-use Rattle.repository.specs.Between.{name_of}
+use Rattle.repository.specs.Between.{carried_name}
 use Rattle.repository.specs.Tests.{is_carried}
 use Rattle.repository.proofs.Sources.{none_behind}
 use Rattle.change_set.proofs.Carrying.{against, rec_at}
@@ -56,7 +56,7 @@ module _ (cs : List Carried) (name : List ℕ) (size : ℕ) (rises : IsStrictlyS
   never : (place : ℕ) → (IsNonDecreasingBy (λ y. ordering_index (against name y)) cs → IsPartitionPoint (λ y. against name y ≡ Less) (λ y. against name y ≡ Greater) cs place) → list_any (is_carried name size) cs ≡ true → ⊥
   never place search' some =
       let h = any_found (is_carried name size) cs some in
-      nowhere name_of cs name rises place search' h.0 h.1 (same_bytes h.0.name name (and_first (bytes_eq h.0.name name) (length h.0.bytes == size) h.2))
+      nowhere carried_name cs name rises place search' h.0 h.1 (same_bytes h.0.name name (and_first (bytes_eq h.0.name name) (length h.0.bytes == size) h.2))
 
   pub missed_size : (place : ℕ) → (IsNonDecreasingBy (λ y. ordering_index (against name y)) cs → IsPartitionPoint (λ y. against name y ≡ Less) (λ y. against name y ≡ Greater) cs place) → false ≡ list_any (is_carried name size) cs
   missed_size place search' = sym (⊎_elim (λ some. absurd (never place search' some)) (λ none. none) (cases_Bool (list_any (is_carried name size) cs)))

@@ -4,22 +4,22 @@ use Rattle.std.proofs.lemmas.List.{take_more}
 use Rattle.std.proofs.lemmas.List.Elements.{All-push, Contains-push_cases}
 use Rattle.change_set.specs.declared.change.Carried.{Carried}
 use Rattle.repo_load.specs.tree-disk.Tree.{Tree}
-use Rattle.repository.specs.Between.{name_of, AreStored}
+use Rattle.repository.specs.Between.{carried_name, AreStoredIn}
 use Rattle.repository.specs.BetweenSteps.{IsHashed, IsStoredAs}
 use Rattle.change_rel.proofs.cny-base.Lists.{map_push}
 
 -- ---- one content more
 
-pub stored_push : (tree : Tree) (contents new : List Carried) (c : Carried) → new ≡ contents ++ c ∷ [] → AreStored tree contents → IsStoredAs tree c → AreStored tree new
-stored_push tree contents new c is all own = subst (AreStored tree) (sym is) (All-push (IsStoredAs tree) contents c all own)
+pub stored_push : (tree : Tree) (contents new : List Carried) (c : Carried) → new ≡ contents ++ c ∷ [] → AreStoredIn tree contents → IsStoredAs tree c → AreStoredIn tree new
+stored_push tree contents new c is all own = subst (AreStoredIn tree) (sym is) (All-push (IsStoredAs tree) contents c all own)
 
 pub hashed_push : (contents new : List Carried) (c : Carried) → new ≡ contents ++ c ∷ [] → All IsHashed contents → IsHashed c → All IsHashed new
 hashed_push contents new c is all own = subst (λ (l : List Carried). All IsHashed l) (sym is) (All-push IsHashed contents c all own)
 
-pub names_push : (contents new : List Carried) (c : Carried) (names : List (List ℕ)) (i : ℕ) → i < length names → new ≡ contents ++ c ∷ [] → map name_of contents ≡ take i names → c.name ≡ get_or names i []
-    → map name_of new ≡ take (i + 1) names
+pub names_push : (contents new : List Carried) (c : Carried) (names : List (List ℕ)) (i : ℕ) → i < length names → new ≡ contents ++ c ∷ [] → map carried_name contents ≡ take i names → c.name ≡ get_or names i []
+    → map carried_name new ≡ take (i + 1) names
 names_push contents new c names i within is so_far own =
-    ap (map name_of) is ∙ map_push name_of contents c
+    ap (map carried_name) is ∙ map_push carried_name contents c
     ∙ ap (λ (l : List (List ℕ)). l ++ c.name ∷ []) so_far ∙ ap (λ (name : List ℕ). take i names ++ name ∷ []) own
     ∙ sym (take_more names i [] within)
 

@@ -16,7 +16,7 @@ use Rattle.std.proofs.lemmas.Slice.Eq.{bytes_eq-Decides}
 use Rattle.repo_load.specs.trove-parts.declared.files.FileAt.{FileAt}
 use Rattle.repo_load.specs.trove-stream.declared.parts.TroveParts.{TroveParts}
 use Rattle.change_rel.specs.Sending.{AreSent, SendsName}
-use Rattle.repository.specs.Between.{old_files, Sends}
+use Rattle.repository.specs.Between.{old_files, SendsContent}
 use Rattle.repository.specs.BetweenSteps.{AreNames}
 use Rattle.change_rel.proofs.cny-base.Lists.{nothing_in}
 
@@ -29,14 +29,14 @@ appended names new sent old fresh is are name = (
 )
 
 -- nothing is sent of no troves
-pub none_sent : (old : List TroveParts) (names : List (List ℕ)) → names ≡ [] → (name : List ℕ) → Contains names name ↔ Sends old [] name
+pub none_sent : (old : List TroveParts) (names : List (List ℕ)) → names ≡ [] → (name : List ℕ) → Contains names name ↔ SendsContent old [] name
 none_sent old names is name = (
   (λ h. absurd (nothing_in name (subst (λ (l : List (List ℕ)). Contains l name) is h))),
   (λ sends. absurd (nothing_in sends.trove sends.there)),
 )
 
 -- one trove more
-pub sends_more : (old fresh : List TroveParts) (t : TroveParts) (name : List ℕ) → Sends old (fresh ++ t ∷ []) name ↔ (Sends old fresh name ⊎ SendsName (old_files old t) t.files name)
+pub sends_more : (old fresh : List TroveParts) (t : TroveParts) (name : List ℕ) → SendsContent old (fresh ++ t ∷ []) name ↔ (SendsContent old fresh name ⊎ SendsName (old_files old t) t.files name)
 sends_more old fresh t name = (
   (λ h. ⊎_elim
       (λ there. inl (record { trove = h.trove; there = there; sends = h.sends }))
@@ -49,18 +49,18 @@ sends_more old fresh t name = (
 )
 
 pub gathered_more : (old fresh : List TroveParts) (names new : List (List ℕ)) (i : ℕ) (t : TroveParts) → i < length fresh → t ≡ get_or fresh i t
-    → ((name : List ℕ) → Contains names name ↔ Sends old (take i fresh) name) → ((name : List ℕ) → Contains new name ↔ (Contains names name ⊎ SendsName (old_files old t) t.files name))
-    → (name : List ℕ) → Contains new name ↔ Sends old (take (i + 1) fresh) name
+    → ((name : List ℕ) → Contains names name ↔ SendsContent old (take i fresh) name) → ((name : List ℕ) → Contains new name ↔ (Contains names name ⊎ SendsName (old_files old t) t.files name))
+    → (name : List ℕ) → Contains new name ↔ SendsContent old (take (i + 1) fresh) name
 gathered_more old fresh names new i t within is so_far more name =
     let front : take (i + 1) fresh ≡ take i fresh ++ t ∷ [] = take_more fresh i t within ∙ ap (λ (u : TroveParts). take i fresh ++ u ∷ []) (sym is) in
     let both = sends_more old (take i fresh) t name in
-    subst (λ (l : List TroveParts). Contains new name ↔ Sends old l name) (sym front) (
+    subst (λ (l : List TroveParts). Contains new name ↔ SendsContent old l name) (sym front) (
       (λ h. both.1 (⊎_elim (λ there. inl ((so_far name).0 there)) (λ s. inr s) ((more name).0 h))),
       (λ h. (more name).1 (⊎_elim (λ there. inl ((so_far name).1 there)) (λ s. inr s) (both.0 h))),
     )
 
 -- the names, sorted and each once
-pub gathered_once : (old fresh : List TroveParts) (names sorted kept made : List (List ℕ)) → ((name : List ℕ) → Contains names name ↔ Sends old fresh name) → IsPermutation names sorted → IsSorted (slice_cmp nat_cmp) sorted
+pub gathered_once : (old fresh : List TroveParts) (names sorted kept made : List (List ℕ)) → ((name : List ℕ) → Contains names name ↔ SendsContent old fresh name) → IsPermutation names sorted → IsSorted (slice_cmp nat_cmp) sorted
     → IsFiltered (DiffersFromLast bytes_eq) [] sorted kept → made ≡ kept → AreNames old fresh made
 gathered_once old fresh names sorted kept made each moved order filtered made_is =
     let is : kept ≡ dedup bytes_eq sorted = dedup_is bytes_eq sorted kept filtered in

@@ -25,7 +25,7 @@ use Rattle.repository.specs.Order.{kept_stop, later_stop, refusing, source_stop,
 use Rattle.repository.specs.Parts.{AreMade, IsFirstRefused}
 use Rattle.repository.specs.Tests.{collides, collision_at, missing_content, missing_ref, refs_of, too_many}
 use Rattle.tree_journal.specs.Preparing.{StopsBefore}
-use Rattle.repository.specs.Preparing.{IsUntold, Writes}
+use Rattle.repository.specs.Preparing.{IsUntold, WritesCommit}
 use Rattle.repository.specs.Verdict.{IsVerdict}
 use Rattle.repository.proofs.Held.{kept_at, none_damaged, none_named}
 use Rattle.change_rel.specs.trove-stream.FilesOf.{files_of}
@@ -146,7 +146,7 @@ memory_first c x change r is = passed_on (IsFirstStop c x change) Memory r tt is
 
 -- a write is never refused, and meets no damaged file
 pub write_first : {D X : Type 0} {disk : DiskModel D} {k : CatalogueParts} {contents : List Carried} {troves : List TroveParts} {old new : D} (c : CatalogueParts) (x : Tree) (change : ChangeSet) (e : Stop) (r : Result X Stop) → IsTrue disk.tells
-    → Writes disk k contents troves old new (Err e) → IsErrAnd r (λ s. s ≡ e) → IfErr r (IsFirstStop c x change)
+    → WritesCommit disk k contents troves old new (Err e) → IsErrAnd r (λ s. s ≡ e) → IfErr r (IsFirstStop c x change)
 write_first c x change e (Ok k) tells writes is = tt
 write_first {disk = disk} {old = old} {new = new} c x change e (Err s) tells writes is = subst (IsFirstStop c x change) (sym is) (by e writes.ends)
   where

@@ -25,10 +25,10 @@ use Rattle.repo_load.proofs.Following.{troves_push}
 use Rattle.repo_load.proofs.HeldCatalogues.{rules_after}
 use Rattle.repo_load.specs.Loading.{IsCatalogue}
 use Rattle.repo_load.proofs.CountedNames.{counted_state, prepared_state}
-use Rattle.repository.specs.Outcome.{committed_contents, AreSound, AtEveryMoment, CanBeRead, EndsSo, IsAtRest, IsDone, IsSettled, MayJoin, StopsSo, TestsChange}
+use Rattle.repository.specs.Outcome.{committed_contents, AreSound, AtEveryMoment, CanBeRead, EndsSo, MayCommit, IsCommitDone, IsSyncedFor, MayBeAdded, CommitStopsSo, TestsChange}
 use Rattle.tree_journal.specs.Preparing.{StopsBefore}
-use Rattle.repository.specs.Preparing.{IsUntold, IsWritten, RecoversSo, Writes}
-use Rattle.repository.specs.Steps.{after_commit, catalogue_after, ids_of, IsStep, RecoversToEither}
+use Rattle.repository.specs.Preparing.{IsUntold, IsWrittenFrom, RecoversSo, WritesCommit}
+use Rattle.repository.specs.Steps.{after_commit, catalogue_after, ids_of, IsCommitStep, RecoversToEitherRepository}
 use Rattle.repository.specs.Tests.{Passes}
 use Rattle.repository.proofs.Held.{held_is}
 use Rattle.repository.proofs.Readable.{carried_read, nothing_read}
@@ -57,17 +57,17 @@ module _ (one : OneCatalogue) (x : Tree) (r : RepositoryState) (c : CataloguePar
   over_state : Passes (catalogue_of r.commits) r.contents change troves
   over_state = passes_state x r c change troves h is_catalogue passes
 
-  pub stored_after : (y : Tree) → IsWritten c change.contents troves x y → StoresRepository y (after_commit troves change.contents r)
-  stored_after y written = written_state r change troves x y h has full over_state (subst (λ (k : CatalogueParts). IsWritten k change.contents troves x y) is_catalogue written)
+  pub stored_after : (y : Tree) → IsWrittenFrom c change.contents troves x y → StoresRepository y (after_commit troves change.contents r)
+  stored_after y written = written_state r change troves x y h has full over_state (subst (λ (k : CatalogueParts). IsWrittenFrom k change.contents troves x y) is_catalogue written)
 
   -- what differs at names that don't count stores the same, and what is written the repository after
-  pub recovers_so : (names : Name → Type 0) → ((q : Name) → Counts r q → names q → ⊥) → (image : Tree) → RecoversSo names c change.contents troves x image → RecoversToEither r (after_commit troves change.contents r) image
+  pub recovers_so : (names : Name → Type 0) → ((q : Name) → Counts r q → names q → ⊥) → (image : Tree) → RecoversSo names c change.contents troves x image → RecoversToEitherRepository r (after_commit troves change.contents r) image
   recovers_so names free image so = ⊎_elim
       (λ before. inl (record { tree = so.tree; recovers = so.recovers; stores = counted_state x so.tree r h (λ q counts. before q (free q counts)) }))
       (λ written. inr (record { tree = so.tree; recovers = so.recovers; stores = stored_after so.tree written }))
       so.is
 
-  pub steps : IsStep r change (after_commit troves change.contents r)
+  pub steps : IsCommitStep r change (after_commit troves change.contents r)
   steps = record { troves = troves; passes = over_state; is = refl }
 
   pub not_prepared : (q : Name) → Counts r q → IsPreparedName c q → ⊥
@@ -76,7 +76,7 @@ module _ (one : OneCatalogue) (x : Tree) (r : RepositoryState) (c : CataloguePar
 -- ---- a disk that was only read
 
 module _ {D : Type 0} {disk : DiskModel D} (laws : IsDisk disk) where
-  still_before : (c : CatalogueParts) (r next : RepositoryState) (d : D) → IsAtRest disk c d → StoresRepository (disk.reads d) r → IsSettled disk d r → (image : Tree) → AgreesExcept (IsUnsynced disk d) image (disk.reads d) → RecoversToEither r next image
+  still_before : (c : CatalogueParts) (r next : RepositoryState) (d : D) → MayCommit disk c d → StoresRepository (disk.reads d) r → IsSyncedFor disk d r → (image : Tree) → AgreesExcept (IsUnsynced disk d) image (disk.reads d) → RecoversToEitherRepository r next image
   still_before c r next d rests h settled image agrees = inl (record {
     tree = image;
     recovers = at_rest (ap is_flag (agrees (gate repository_base) (λ un. absurd (cc (un, rests.flag_synced)))) ∙ rests.flag_clear) (stores_itself image);
@@ -84,22 +84,22 @@ module _ {D : Type 0} {disk : DiskModel D} (laws : IsDisk disk) where
   })
 
   -- nothing was changed, whichever other repository is named
-  pub kept_moments : {Answer : Type 0} (c : CatalogueParts) (r next : RepositoryState) (old new : D) → IsAtRest disk c old → HasRead disk old new Answer → StoresRepository (disk.reads old) r → IsSettled disk old r
-      → LeavesOnly disk old new (RecoversToEither r next) × RecoversToEither r next (disk.reads new)
+  pub kept_moments : {Answer : Type 0} (c : CatalogueParts) (r next : RepositoryState) (old new : D) → MayCommit disk c old → HasRead disk old new Answer → StoresRepository (disk.reads old) r → IsSyncedFor disk old r
+      → LeavesOnly disk old new (RecoversToEitherRepository r next) × RecoversToEitherRepository r next (disk.reads new)
   kept_moments c r next old new rests read h settled = (
     leaves_weaker (λ image differs. still_before c r next old rests h settled image (λ q out. differs.agrees q (λ where_. out (⊎_elim (λ was. was) (λ none. absurd none) where_))))
         (confined_read laws (λ q. ⊥) read).images,
     still_before c r next old rests h settled (disk.reads new) (λ q out. ap (λ (t : Tree). get t q) read.same.reads),
   )
 
-  pub read_moments : {Answer : Type 0} {c : CatalogueParts} {old new : D} (change : ChangeSet) (r : RepositoryState) → IsAtRest disk c old → HasRead disk old new Answer → AtEveryMoment disk change old new r
+  pub read_moments : {Answer : Type 0} {c : CatalogueParts} {old new : D} (change : ChangeSet) (r : RepositoryState) → MayCommit disk c old → HasRead disk old new Answer → AtEveryMoment disk change old new r
   read_moments {c = c} {old = old} {new = new} change r rests read h settled =
       let kept = kept_moments c r r old new rests read h settled in record { next = r; is = inl refl; images = kept.0; reads = kept.1 }
 
   -- the writes
-  pub write_moments : (one : OneCatalogue) (c : CatalogueParts) (r : RepositoryState) (change : ChangeSet) (troves : List TroveParts) (old new : D) {result : Result (Unit {0}) Stop} → IsTrue disk.tells → IsAtRest disk c old → HasContents change → troves ≢ []
-      → Passes c (committed_contents c.troves (disk.reads old)) change troves → Writes disk c change.contents troves old new result → StoresRepository (disk.reads old) r → IsSettled disk old r
-      → LeavesOnly disk old new (RecoversToEither r (after_commit troves change.contents r)) × RecoversToEither r (after_commit troves change.contents r) (disk.reads new)
+  pub write_moments : (one : OneCatalogue) (c : CatalogueParts) (r : RepositoryState) (change : ChangeSet) (troves : List TroveParts) (old new : D) {result : Result (Unit {0}) Stop} → IsTrue disk.tells → MayCommit disk c old → HasContents change → troves ≢ []
+      → Passes c (committed_contents c.troves (disk.reads old)) change troves → WritesCommit disk c change.contents troves old new result → StoresRepository (disk.reads old) r → IsSyncedFor disk old r
+      → LeavesOnly disk old new (RecoversToEitherRepository r (after_commit troves change.contents r)) × RecoversToEitherRepository r (after_commit troves change.contents r) (disk.reads new)
   write_moments one c r change troves old new tells rests has full passes writes h settled = (
     leaves_weaker (recovers_so one (disk.reads old) r c change troves h rests.holds has full passes (IsUnsyncedOr disk old (IsPreparedName c))
         (λ q counts where_. ⊎_elim (λ un. absurd (cc (un, settled q counts))) (λ prepared. not_prepared one (disk.reads old) r c change troves h rests.holds has full passes q counts prepared) where_)) (writes.any_moment tells),
@@ -110,14 +110,14 @@ module _ {D : Type 0} {disk : DiskModel D} (laws : IsDisk disk) where
 -- ---- how it ends
 
 module _ {D : Type 0} {disk : DiskModel D} (laws : IsDisk disk) (change : ChangeSet) (c : CatalogueParts) where
-  pub rests_read : {A : Type 0} (k : CatalogueParts) (old new : D) → HasRead disk old new A → IsAtRest disk k old → IsAtRest disk k new
+  pub rests_read : {A : Type 0} (k : CatalogueParts) (old new : D) → HasRead disk old new A → MayCommit disk k old → MayCommit disk k new
   rests_read k old new read rests = record {
     holds = subst (λ (t : Tree). HoldsCatalogue t k) (sym read.same.reads) rests.holds;
     flag_clear = ap (is_committed repository_base) read.same.reads ∙ rests.flag_clear;
     flag_synced = read.same.unsynced (gate repository_base) ∙ rests.flag_synced;
   }
 
-  pub settled_read : {A : Type 0} (r : RepositoryState) (old new : D) → HasRead disk old new A → IsSettled disk old r → IsSettled disk new r
+  pub settled_read : {A : Type 0} (r : RepositoryState) (old new : D) → HasRead disk old new A → IsSyncedFor disk old r → IsSyncedFor disk new r
   settled_read r old new read settled q counts = read.same.unsynced q ∙ settled q counts
 
   after_none : (troves : List TroveParts) (r : RepositoryState) → troves ≡ [] → after_commit troves change.contents r ≡ r
@@ -129,7 +129,7 @@ module _ {D : Type 0} {disk : DiskModel D} (laws : IsDisk disk) (change : Change
   catalogue_none (t ∷ troves) none = absurd (cc none)
 
   -- no troves
-  pub done_nothing : {old new : D} (added : CatalogueParts) (ids : List TroveId) → IsTrue disk.tells → HasContents change → IsAtRest disk c old → TestsChange disk change c old new (Ok added) → added.troves ≡ [] → ids ≡ ids_of added.troves → IsDone disk change c c ids old new
+  pub done_nothing : {old new : D} (added : CatalogueParts) (ids : List TroveId) → IsTrue disk.tells → HasContents change → MayCommit disk c old → TestsChange disk change c old new (Ok added) → added.troves ≡ [] → ids ≡ ids_of added.troves → IsCommitDone disk change c c ids old new
   done_nothing {old = old} {new = new} added ids tells has rests tests none ids_are =
       let read = tests.same tells in record {
         troves = added.troves;
@@ -140,11 +140,11 @@ module _ {D : Type 0} {disk : DiskModel D} (laws : IsDisk disk) (change : Change
         contents = nothing_read c.troves change added.troves c.troves (disk.reads new) none has (tests.ends tells).made.make;
         stores = λ r h. subst (StoresRepository (disk.reads new)) (sym (after_none added.troves r none)) (subst (λ (t : Tree). StoresRepository t r) (sym read.same.reads) h);
         calm = λ q un. sym (read.same.unsynced q) ∙ un;
-        settled = λ r h settled. subst (IsSettled disk new) (sym (after_none added.troves r none)) (settled_read r old new read settled);
+        settled = λ r h settled. subst (IsSyncedFor disk new) (sym (after_none added.troves r none)) (settled_read r old new read settled);
       }
 
   -- the writing stopped
-  stops_write : (old new : D) (c' : CatalogueParts) (told : Bool) (a b : ℕ) (e : Stop) → IsTrue told → StopsBefore (IsUntold told) a b e → StopsSo disk change c c' old new e
+  stops_write : (old new : D) (c' : CatalogueParts) (told : Bool) (a b : ℕ) (e : Stop) → IsTrue told → StopsBefore (IsUntold told) a b e → CommitStopsSo disk change c c' old new e
   stops_write old new c' told a b (Refused refusal) tells stops = absurd (stops tells)
   stops_write old new c' told a b (Damaged path) tells stops = absurd stops
   stops_write old new c' told a b Failed tells stops = tt
@@ -152,7 +152,7 @@ module _ {D : Type 0} {disk : DiskModel D} (laws : IsDisk disk) (change : Change
   stops_write old new c' told a b FarFailed tells stops = stops
   stops_write old new c' told a b (FarDamaged path) tells stops = stops
 
-  pub ends_write : {mid new : D} (old : D) (c' : CatalogueParts) {troves : List TroveParts} (e : Stop) (r : Result (List TroveId) Stop) → IsTrue disk.tells → Writes disk c change.contents troves mid new (Err e) → IsErrAnd r (λ s. s ≡ e) → EndsSo disk change c c' old new r
+  pub ends_write : {mid new : D} (old : D) (c' : CatalogueParts) {troves : List TroveParts} (e : Stop) (r : Result (List TroveId) Stop) → IsTrue disk.tells → WritesCommit disk c change.contents troves mid new (Err e) → IsErrAnd r (λ s. s ≡ e) → EndsSo disk change c c' old new r
   ends_write old c' e (Ok ids) tells writes is = absurd is
   ends_write {mid = mid} {new = new} old c' e (Err s) tells writes is =
       subst (λ x. EndsSo disk change c c' old new (Err x)) (sym is) (stops_write old new c' disk.tells (disk.faults mid) (disk.faults new) e tells writes.ends)
@@ -162,11 +162,11 @@ module _ {D : Type 0} {disk : DiskModel D} (laws : IsDisk disk) (change : Change
   after_some (t ∷ troves) full = refl
 
   -- the file is written
-  pub done_write : (one : OneCatalogue) {old mid new : D} (c' added : CatalogueParts) (ids : List TroveId) → IsTrue disk.tells → HasContents change → IsAtRest disk c old → TestsChange disk change c old mid (Ok added) → added.troves ≢ [] → AreSound change.contents c.troves (disk.reads old) → MayFollow c added.troves
-      → ids ≡ ids_of added.troves → Writes disk c change.contents added.troves mid new (Ok tt) → c' ≡ catalogue_with added.troves c → IsDone disk change c c' ids old new
+  pub done_write : (one : OneCatalogue) {old mid new : D} (c' added : CatalogueParts) (ids : List TroveId) → IsTrue disk.tells → HasContents change → MayCommit disk c old → TestsChange disk change c old mid (Ok added) → added.troves ≢ [] → AreSound change.contents c.troves (disk.reads old) → MayFollow c added.troves
+      → ids ≡ ids_of added.troves → WritesCommit disk c change.contents added.troves mid new (Ok tt) → c' ≡ catalogue_with added.troves c → IsCommitDone disk change c c' ids old new
   done_write one {old = old} {mid = mid} {new = new} c' added ids tells has rests tests full sound follows ids_are writes is =
       let read = tests.same tells in
-      let written : IsWritten c change.contents added.troves (disk.reads old) (disk.reads new) = subst (λ (t : Tree). IsWritten c change.contents added.troves t (disk.reads new)) read.same.reads (writes.ends tells) in
+      let written : IsWrittenFrom c change.contents added.troves (disk.reads old) (disk.reads new) = subst (λ (t : Tree). IsWrittenFrom c change.contents added.troves t (disk.reads new)) read.same.reads (writes.ends tells) in
       record {
         troves = added.troves;
         passes = tests.ends tells;
@@ -184,8 +184,8 @@ module _ {D : Type 0} {disk : DiskModel D} (laws : IsDisk disk) (change : Change
       }
 
   -- both runs, one after the other
-  pub both_moments : (one : OneCatalogue) (r : RepositoryState) {old mid new : D} {added : CatalogueParts} {result : Result (Unit {0}) Stop} → IsTrue disk.tells → HasContents change → IsAtRest disk c old → TestsChange disk change c old mid (Ok added) → added.troves ≢ []
-      → Writes disk c change.contents added.troves mid new result → AtEveryMoment disk change old new r
+  pub both_moments : (one : OneCatalogue) (r : RepositoryState) {old mid new : D} {added : CatalogueParts} {result : Result (Unit {0}) Stop} → IsTrue disk.tells → HasContents change → MayCommit disk c old → TestsChange disk change c old mid (Ok added) → added.troves ≢ []
+      → WritesCommit disk c change.contents added.troves mid new result → AtEveryMoment disk change old new r
   both_moments one r {old = old} {mid = mid} {new = new} {added = added} tells has rests tests full writes h settled =
       let read = tests.same tells in
       let made = after_commit added.troves change.contents r in
@@ -202,7 +202,7 @@ module _ {D : Type 0} {disk : DiskModel D} (laws : IsDisk disk) (change : Change
 
 -- ---- the rules
 
-pub rules_join : (c : CatalogueParts) (parts : List Part) (troves : List TroveParts) → troves ≢ [] → All IsTrove troves → MayJoin c parts troves → MayFollow c troves
+pub rules_join : (c : CatalogueParts) (parts : List Part) (troves : List TroveParts) → troves ≢ [] → All IsTrove troves → MayBeAdded c parts troves → MayFollow c troves
 rules_join c parts troves full are joins = may_follow c parts troves full are joins.made (joins.refs full) (let few = joins.few full in omega (arith, few))
 
 pub rules_kept : (c c' : CatalogueParts) (troves : List TroveParts) → IsCatalogue c → MayFollow c troves → c' ≡ catalogue_with troves c → IsCatalogue c'
@@ -215,7 +215,7 @@ rules_kept c c' troves is follows made =
     }
 
 -- said of equal contents and troves
-pub writes_as : {D : Type 0} {disk : DiskModel D} {c : CatalogueParts} {contents given : List Carried} {troves those : List TroveParts} {old new : D} {r : Result (Unit {0}) Stop} → given ≡ contents → those ≡ troves → Writes disk c given those old new r
-    → Writes disk c contents troves old new r
+pub writes_as : {D : Type 0} {disk : DiskModel D} {c : CatalogueParts} {contents given : List Carried} {troves those : List TroveParts} {old new : D} {r : Result (Unit {0}) Stop} → given ≡ contents → those ≡ troves → WritesCommit disk c given those old new r
+    → WritesCommit disk c contents troves old new r
 writes_as {disk = disk} {c = c} {given = given} {troves = troves} {old = old} {new = new} {r = r} one two writes =
-    subst (λ (l : List Carried). Writes disk c l troves old new r) one (subst (λ (l : List TroveParts). Writes disk c given l old new r) two writes)
+    subst (λ (l : List Carried). WritesCommit disk c l troves old new r) one (subst (λ (l : List TroveParts). WritesCommit disk c given l old new r) two writes)

@@ -21,7 +21,7 @@ use Rattle.repo_load.proofs.CountedNames.{content_apart}
 use Rattle.repo_load.proofs.FileNames.{content_differs}
 use Rattle.repository.specs.Outcome.{committed_contents, is_recorded, AreSound, CanBeRead}
 use Rattle.repository.specs.Parts.{MakeTroves}
-use Rattle.repository.specs.Preparing.{IsStored, IsWritten}
+use Rattle.repository.specs.Preparing.{IsStored, IsWrittenFrom}
 use Rattle.repository.specs.Tests.{collides, Passes}
 use Rattle.repository.proofs.Held.{kept_at, recorded_means, recorded_same}
 use Rattle.repository.proofs.Making.{parts_record}
@@ -43,7 +43,7 @@ named_not_prepared c name name_is has (inr (inr (inl other))) =
 named_not_prepared c name name_is has (inr (inr (inr behind))) = absurd (cc (behind, content_not_behind (c.commits + 2) name))
 
 -- with the commit's file a content stands as it stood before
-written_content : (c : CatalogueParts) (contents : List Carried) (troves : List TroveParts) (x y : Tree) (written : IsWritten c contents troves x y) (name : List ℕ)
+written_content : (c : CatalogueParts) (contents : List Carried) (troves : List TroveParts) (x y : Tree) (written : IsWrittenFrom c contents troves x y) (name : List ℕ)
     → stored y contents_dir name ≡ stored written.readied contents_dir name
 written_content c contents troves x y written name = ap file_bytes
     (written.same (content_path contents_dir name) refl
@@ -79,7 +79,7 @@ sound_bytes troves x name has free = by (stored x contents_dir name) refl
 
 -- ---- what is carried
 
-module _ (c : CatalogueParts) (contents : List Carried) (troves : List TroveParts) (x y : Tree) (written : IsWritten c contents troves x y) where
+module _ (c : CatalogueParts) (contents : List Carried) (troves : List TroveParts) (x y : Tree) (written : IsWrittenFrom c contents troves x y) where
   committed_stands : (one : Carried) → one.name ≡ sha1 one.bytes → has_content one.name c.troves ≡ true → ((path : Name) → IsDamagedContent c.troves one.name x path → ⊥)
       → collides (committed_contents c.troves x one.name) one ≡ None → stored y contents_dir one.name ≡ Some one.bytes
   committed_stands one hash has free agrees =
@@ -106,7 +106,7 @@ carried_recorded before change troves one make is = record {
 }
 
 pub carried_read : (c : CatalogueParts) (change : ChangeSet) (troves : List TroveParts) (x y : Tree) → troves ≢ [] → HasContents change → Passes c (committed_contents c.troves x) change troves
-    → AreSound change.contents c.troves x → IsWritten c change.contents troves x y → CanBeRead change.contents (c.troves ++ troves) y
+    → AreSound change.contents c.troves x → IsWrittenFrom c change.contents troves x y → CanBeRead change.contents (c.troves ++ troves) y
 carried_read c change troves x y full has passes sound written k d lt =
     let one : Carried = get_or change.contents k d in
     let is : IsContentOf change.parts one = has.contents k d lt in

@@ -21,7 +21,7 @@ use Rattle.repo_load.specs.content-store.Store.{content_path, file_bytes}
 use Rattle.repo_index.specs.Catalogue.{CatalogueParts}
 use Rattle.repo_load.specs.Counts.{IsPreparedName, IsUnnamedContent}
 use Rattle.repo_load.specs.Files.{commit_file, contents_dir, repository_base}
-use Rattle.repository.specs.Preparing.{is_dir_name, AreStored, IsReady, IsStored}
+use Rattle.repository.specs.Preparing.{is_dir_name, AreStored, IsPreparedFor, IsStored}
 use Rattle.tree_journal.proofs.tree-disk.Without.{elsewhere}
 use Rattle.change_rel.proofs.cny-base.Bools.{or_left, or_right}
 
@@ -86,7 +86,7 @@ pub dir_made : (tree : Tree) → is_dir_at (with_base contents_dir (with_base re
 dir_made tree = base_stands contents_dir (with_base repository_base tree)
 
 pub is_ready : (c : CatalogueParts) (contents : List Carried) (old d1 d2 new : Tree) → d1 ≡ with_base contents_dir (with_base repository_base old) → AgreesExcept (IsUnnamedContent c) d2 d1 → AreStored c contents d2
-    → new ≡ without_tree d2 (commit_file (c.commits + 2)) → IsReady c contents new
+    → new ≡ without_tree d2 (commit_file (c.commits + 2)) → IsPreparedFor c contents new
 is_ready c contents old d1 d2 new made agrees stand cleared = record {
   base = ap (λ (t : Tree). is_dir_at t repository_base) cleared ∙ ap is_dir (elsewhere d2 (commit_file (c.commits + 2)) repository_base (base_not_behind (c.commits + 2)))
       ∙ ap is_dir (agrees repository_base (base_not_content c)) ∙ ap (λ (t : Tree). is_dir_at t repository_base) made ∙ base_made old;

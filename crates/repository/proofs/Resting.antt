@@ -9,7 +9,7 @@ use Rattle.repo_load.specs.Files.{repository_base, StoresRepository}
 use Rattle.repo_load.specs.State.{RepositoryState}
 use Rattle.repo_load.proofs.CountedNames.{counted_state}
 use Rattle.repo_load.proofs.HeldCatalogues.{same_state}
-use Rattle.repository.specs.Outcome.{IsAtRest, IsSettled}
+use Rattle.repository.specs.Outcome.{MayCommit, IsSyncedFor}
 use Rattle.repository.specs.Steps.{RecoversAlone, RecoversToRepository}
 
 -- a tree stores one state at most
@@ -31,10 +31,10 @@ clear_alone one x r clear stores = record {
 }
 
 module _ {D : Type 0} {disk : DiskModel D} where
-  pub reads_alone : StoresOne → (d : D) (c : CatalogueParts) (r : RepositoryState) → IsAtRest disk c d → StoresRepository (disk.reads d) r → RecoversAlone (disk.reads d) r
+  pub reads_alone : StoresOne → (d : D) (c : CatalogueParts) (r : RepositoryState) → MayCommit disk c d → StoresRepository (disk.reads d) r → RecoversAlone (disk.reads d) r
   reads_alone one d c r rests stores = clear_alone one (disk.reads d) r rests.flag_clear stores
 
-  pub image_alone : StoresOne → (d : D) (c : CatalogueParts) (r : RepositoryState) (image : Tree) → IsAtRest disk c d → StoresRepository (disk.reads d) r → IsSettled disk d r → IsImageOf disk d image
+  pub image_alone : StoresOne → (d : D) (c : CatalogueParts) (r : RepositoryState) (image : Tree) → MayCommit disk c d → StoresRepository (disk.reads d) r → IsSyncedFor disk d r → IsImageOf disk d image
       → RecoversAlone image r
   image_alone one d c r image rests stores settled left = clear_alone one image r
       (ap is_flag (left.synced (gate repository_base) rests.flag_synced) ∙ rests.flag_clear)

@@ -19,7 +19,7 @@ use Rattle.repo_load.specs.content-store.Store.{stored}
 use Rattle.repo_load.specs.State.{troves_of, RepositoryState}
 use Rattle.repo_load.specs.Files.{contents_dir, StoresRepository}
 use Rattle.repo_index.specs.Catalogue.{AreCommitted}
-use Rattle.repository.specs.Between.{name_of, old_of, AreContents, AreParts, HasStored, IsBetween, IsPartOf, RecordsContent, Sends}
+use Rattle.repository.specs.Between.{carried_name, old_trove_of, AreContents, ArePartsBetween, HasStored, LeadsBetween, IsPartOf, RecordsContent, SendsContent}
 use Rattle.repository.specs.Damage.{IsDamagedBetween}
 use Rattle.repository.proofs.BetweenCarrying.{records_sized, sends_records}
 use Rattle.change_rel.proofs.cny-base.Lists.{all_from, contains_map, nothing_in, from_map as mapped}
@@ -33,12 +33,12 @@ whole_part t None is = absurd is
 whole_part t (Some (Relative rel)) is = absurd is
 whole_part t (Some (Whole u)) is = ap (λ (v : TroveParts). Some (Whole v)) is
 
-pub whole_parts : (fresh : List TroveParts) (parts : List Part) → AreParts [] fresh parts → parts ≡ map Whole fresh
+pub whole_parts : (fresh : List TroveParts) (parts : List Part) → ArePartsBetween [] fresh parts → parts ≡ map Whole fresh
 whole_parts [] parts are = are
 whole_parts (t ∷ fresh) parts are =
     are.4 ∙ ap (λ (o : Option Part). cons_option o are.1) (whole_part t are.0 are.2) ∙ ap (λ (l : List Part). Whole t ∷ l) (whole_parts fresh are.1 are.3)
 
-pub all_sent : (fresh : List TroveParts) (name : List ℕ) → Sends [] fresh name ↔ ((size : ℕ) × RecordsContent fresh name size)
+pub all_sent : (fresh : List TroveParts) (name : List ℕ) → SendsContent [] fresh name ↔ ((size : ℕ) × RecordsContent fresh name size)
 all_sent fresh name = (
   (λ s. sends_records [] fresh name s),
   (λ h. record {
@@ -67,10 +67,10 @@ one_part one (Some old) fresh (Some (Relative a)) (Some (Relative b)) is other =
 one_part one (Some old) fresh (Some (Relative rel)) (Some (Whole u)) is other = absurd other
 one_part one (Some old) fresh (Some (Whole u)) q is other = absurd is
 
-pub one_parts : OneRelative → (old fresh : List TroveParts) (a b : List Part) → AreParts old fresh a → AreParts old fresh b → a ≡ b
+pub one_parts : OneRelative → (old fresh : List TroveParts) (a b : List Part) → ArePartsBetween old fresh a → ArePartsBetween old fresh b → a ≡ b
 one_parts one old [] a b are other = are ∙ sym other
 one_parts one old (t ∷ fresh) a b are other =
-    let first = one_part one (old_of old t) t are.0 other.0 are.2 other.2 in
+    let first = one_part one (old_trove_of old t) t are.0 other.0 are.2 other.2 in
     let rest = one_parts one old fresh are.1 other.1 are.3 other.3 in
     are.4 ∙ ap (λ (o : Option Part). cons_option o are.1) first ∙ ap (cons_option other.0) rest ∙ sym other.4
 
@@ -84,7 +84,7 @@ AreHeld held contents = All (λ (c : Carried). held c.name ≡ Some c.bytes) con
 -- a content of the one set is one of the other
 in_other : (held : List ℕ → Option (List ℕ)) (old fresh : List TroveParts) (a b : List Carried) → AreContents old fresh a → AreContents old fresh b → AreHeld held a → AreHeld held b → (c : Carried) → Contains a c → Contains b c
 in_other held old fresh a b are other stands stands' c among =
-    let found = mapped name_of b c.name ((other.each c.name).1 ((are.each c.name).0 (contains_map name_of a c among))) in
+    let found = mapped carried_name b c.name ((other.each c.name).1 ((are.each c.name).0 (contains_map carried_name a c among))) in
     let d : Carried = found.0 in
     let own : held c.name ≡ Some c.bytes = All-contains (λ (e : Carried). held e.name ≡ Some e.bytes) a c stands among in
     let its : held d.name ≡ Some d.bytes = All-contains (λ (e : Carried). held e.name ≡ Some e.bytes) b d stands' found.1 in
@@ -96,7 +96,7 @@ pub one_contents : (held : List ℕ → Option (List ℕ)) (old fresh : List Tro
 one_contents held old fresh a b are other stands stands' =
     same_members content_cmp content_total a b are.rising other.rising (in_other held old fresh a b are other stands stands') (in_other held old fresh b a other are stands' stands)
 
-pub one_between : OneRelative → (x : Tree) (old fresh : List TroveParts) (a b : ChangeSet) → IsBetween old fresh a → IsBetween old fresh b → HasStored x a → HasStored x b → a ≡ b
+pub one_between : OneRelative → (x : Tree) (old fresh : List TroveParts) (a b : ChangeSet) → LeadsBetween old fresh a → LeadsBetween old fresh b → HasStored x a → HasStored x b → a ≡ b
 one_between one x old fresh a b is other stands stands' =
     let parts = one_parts one old fresh a.parts b.parts is.parts other.parts in
     let contents = one_contents (stored x contents_dir) old fresh a.contents b.contents is.contents other.contents stands stands' in
@@ -119,9 +119,9 @@ module _ (x : Tree) (r : RepositoryState) (fresh : List TroveParts) (stores : St
             let other = has_bytes d.name size records in ap (λ (l : List ℕ). length l) (same_bytes held.0 other.0 (r.contents d.name) held.1 other.1) ∙ other.2;
       })
 
-  held_content : (old : List TroveParts) (set : ChangeSet) → IsBetween old fresh set → HasStored x set → (c : Carried) → Contains set.contents c → r.contents c.name ≡ Some c.bytes
+  held_content : (old : List TroveParts) (set : ChangeSet) → LeadsBetween old fresh set → HasStored x set → (c : Carried) → Contains set.contents c → r.contents c.name ≡ Some c.bytes
   held_content old set is stands c among =
-      let one = sends_records old fresh c.name ((is.contents.each c.name).0 (contains_map name_of set.contents c among)) in
+      let one = sends_records old fresh c.name ((is.contents.each c.name).0 (contains_map carried_name set.contents c among)) in
       let held = has_bytes c.name one.0 one.1 in
       let own = All-contains (λ (e : Carried). stored x contents_dir e.name ≡ Some e.bytes) set.contents c stands among in
       held.1 ∙ ap some_bytes (same_bytes held.0 c.bytes (stored x contents_dir c.name) (stores.contents c.name held.0 held.1) own)
@@ -129,5 +129,5 @@ module _ (x : Tree) (r : RepositoryState) (fresh : List TroveParts) (stores : St
       some_bytes : List ℕ → Option (List ℕ)
       some_bytes bytes = Some bytes
 
-  pub contents_of_state : (old : List TroveParts) (set : ChangeSet) → IsBetween old fresh set → HasStored x set → All (λ (content : Carried). r.contents content.name ≡ Some content.bytes) set.contents
+  pub contents_of_state : (old : List TroveParts) (set : ChangeSet) → LeadsBetween old fresh set → HasStored x set → All (λ (content : Carried). r.contents content.name ≡ Some content.bytes) set.contents
   contents_of_state old set is stands = all_from (λ (content : Carried). r.contents content.name ≡ Some content.bytes) set.contents (held_content old set is stands)

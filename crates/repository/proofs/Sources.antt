@@ -19,8 +19,8 @@ use Rattle.repo_load.specs.content-store.Contents.{ContentMap}
 use Rattle.repo_load.specs.content-store.Difference.{first_difference}
 use Rattle.repo_load.proofs.content-store.Differences.{same_lists}
 use Rattle.repo_load.specs.State.{records_content, trove_records}
-use Rattle.repository.specs.Steps.{bytes_of, carried}
-use Rattle.repository.specs.Tests.{collides, collision, collision_at, has_source, is_carried, lacks_content, missing_content}
+use Rattle.repository.specs.Steps.{bytes_if_carried, carried}
+use Rattle.repository.specs.Tests.{collides, collision, collision_at, has_content_source, is_carried, lacks_content, missing_content}
 use Rattle.repository.proofs.Lists.{then_append, then_none}
 use Rattle.tree_journal.proofs.tree-disk.Order.{not_before}
 use Rattle.change_rel.proofs.cny-base.ByteLists.{same_bytes}
@@ -51,7 +51,7 @@ unfolding IsStrictlySortedBy
 sized_carried name size [] rises h = absurd (cc h)
 sized_carried name size (c ∷ cs) rises h = by (has_name name c) refl (sized_carried name size cs rises.1) (or_either (is_carried name size c) (list_any (is_carried name size) cs) h)
   where
-    by : (p : Bool) → has_name name c ≡ p → (list_any (is_carried name size) cs ≡ true → (bytes : List ℕ) × (carried cs name ≡ Some bytes) × (length bytes ≡ size)) → (is_carried name size c ≡ true) ⊎ (list_any (is_carried name size) cs ≡ true) → (bytes : List ℕ) × (bytes_of (cond p (Some c) (find (has_name name) cs)) ≡ Some bytes) × (length bytes ≡ size)
+    by : (p : Bool) → has_name name c ≡ p → (list_any (is_carried name size) cs ≡ true → (bytes : List ℕ) × (carried cs name ≡ Some bytes) × (length bytes ≡ size)) → (is_carried name size c ≡ true) ⊎ (list_any (is_carried name size) cs ≡ true) → (bytes : List ℕ) × (bytes_if_carried (cond p (Some c) (find (has_name name) cs)) ≡ Some bytes) × (length bytes ≡ size)
     by true same rest either = (
       c.bytes,
       refl,
@@ -70,7 +70,7 @@ pub found_has : (P : Carried → Type 0) (name bytes : List ℕ) (cs : List Carr
 found_has P name bytes [] all h = absurd (cc h)
 found_has P name bytes (c ∷ cs) all h = by (has_name name c) refl h (found_has P name bytes cs (All-tail P c cs all))
   where
-    by : (p : Bool) → has_name name c ≡ p → bytes_of (cond p (Some c) (find (has_name name) cs)) ≡ Some bytes → (carried cs name ≡ Some bytes → (content : Carried) × P content × (content.name ≡ name) × (content.bytes ≡ bytes)) → (content : Carried) × P content × (content.name ≡ name) × (content.bytes ≡ bytes)
+    by : (p : Bool) → has_name name c ≡ p → bytes_if_carried (cond p (Some c) (find (has_name name) cs)) ≡ Some bytes → (carried cs name ≡ Some bytes → (content : Carried) × P content × (content.name ≡ name) × (content.bytes ≡ bytes)) → (content : Carried) × P content × (content.name ≡ name) × (content.bytes ≡ bytes)
     by true same h rest = (c, All-head P c cs all, same_bytes c.name name same, cc h)
     by false other h rest = rest h
 
@@ -84,19 +84,19 @@ missing_append committed contents (file ∷ a) b =
     ∙ then_append (lacks_content committed contents file.rec) (missing_content committed contents a) (missing_content committed contents b)
 
 module _ (committed : List TroveParts) (contents : List Carried) (name : List ℕ) (size : ℕ) where
-  record_source : (rec : FileRec) → lacks_content committed contents rec ≡ None → has_name_and_size name size rec ≡ true → has_source committed contents name size ≡ true
+  record_source : (rec : FileRec) → lacks_content committed contents rec ≡ None → has_name_and_size name size rec ≡ true → has_content_source committed contents name size ≡ true
   record_source (Dir mode owner) none h = absurd (cc h)
-  record_source (File mode owner flags of_size of_name) none h = by (has_source committed contents of_name of_size) refl none
+  record_source (File mode owner flags of_size of_name) none h = by (has_content_source committed contents of_name of_size) refl none
     where
-      by : (p : Bool) → has_source committed contents of_name of_size ≡ p → cond p None (Some (MissingContent of_name)) ≡ None → has_source committed contents name size ≡ true
+      by : (p : Bool) → has_content_source committed contents of_name of_size ≡ p → cond p None (Some (MissingContent of_name)) ≡ None → has_content_source committed contents name size ≡ true
       by true is none =
           let sizes : of_size ≡ size = same_size of_size size (and_first (of_size == size) (bytes_eq of_name name) h) in
           let names : of_name ≡ name = same_bytes of_name name (and_second (of_size == size) (bytes_eq of_name name) h) in
-          (λ i. has_source committed contents (sym names i) (sym sizes i)) ∙ is
+          (λ i. has_content_source committed contents (sym names i) (sym sizes i)) ∙ is
       by false is none = absurd (cc none)
   record_source (Link target) none h = absurd (cc h)
 
-  files_source : (files : List FileAt) → missing_content committed contents files ≡ None → list_any (λ (file : FileAt). has_name_and_size name size file.rec) files ≡ true → has_source committed contents name size ≡ true
+  files_source : (files : List FileAt) → missing_content committed contents files ≡ None → list_any (λ (file : FileAt). has_name_and_size name size file.rec) files ≡ true → has_content_source committed contents name size ≡ true
   files_source [] none h = absurd (cc h)
   files_source (file ∷ files) none h =
       let parts = then_none (lacks_content committed contents file.rec) (missing_content committed contents files) none in
@@ -106,7 +106,7 @@ module _ (committed : List TroveParts) (contents : List Carried) (name : List �
       (or_either (has_name_and_size name size file.rec) (list_any (λ (file : FileAt). has_name_and_size name size file.rec) files) h)
 
   -- where no content is missing each that is recorded is carried or committed
-  pub troves_source : (troves : List TroveParts) → missing_content committed contents (files_of troves) ≡ None → records_content name size troves ≡ true → has_source committed contents name size ≡ true
+  pub troves_source : (troves : List TroveParts) → missing_content committed contents (files_of troves) ≡ None → records_content name size troves ≡ true → has_content_source committed contents name size ≡ true
   troves_source [] none h = absurd (cc h)
   troves_source (t ∷ troves) none h =
       let parts = then_none (missing_content committed contents t.files) (missing_content committed contents (files_of troves)) (sym (missing_append committed contents t.files (files_of troves)) ∙ none) in

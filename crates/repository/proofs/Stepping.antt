@@ -22,7 +22,7 @@ use Rattle.repo_load.proofs.Following.{troves_push}
 use Rattle.repo_load.specs.Steps.{with_commit, MayFollow}
 use Rattle.repo_load.proofs.HeldCatalogues.{rules_after}
 use Rattle.repository.specs.Parts.{AreMade}
-use Rattle.repository.specs.Steps.{after_commit, carried, or_carried, with_contents, IsStep}
+use Rattle.repository.specs.Steps.{after_commit, carried, or_carried, with_contents, IsCommitStep}
 use Rattle.repository.specs.Tests.{collides, collision, is_carried, later_refusal, missing_content, missing_ref, refs_of, too_many, Passes}
 use Rattle.repository.proofs.Lists.{then_none}
 use Rattle.repository.proofs.Making.{made_troves_are, parts_record}
@@ -147,7 +147,7 @@ pub after_full : (troves : List TroveParts) (contents : List Carried) (r : Repos
 after_full [] contents r full = absurd (full refl)
 after_full (t ∷ troves) contents r full = refl
 
-pub step_repository : (r new : RepositoryState) (change : ChangeSet) → IsRepository r → HasContents change → All IsPart change.parts → IsStep r change new → IsRepository new
+pub step_repository : (r new : RepositoryState) (change : ChangeSet) → IsRepository r → HasContents change → All IsPart change.parts → IsCommitStep r change new → IsRepository new
 step_repository r new change is has parts step = ⊎_elim
     (λ none. subst IsRepository (sym (step.is ∙ ap (λ (l : List TroveParts). after_commit l change.contents r) none)) is)
     (λ full. subst IsRepository (sym (step.is ∙ after_full step.troves change.contents r full))

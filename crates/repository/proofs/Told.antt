@@ -8,10 +8,10 @@ use Rattle.repo_load.specs.trove-stream.Trove.{IsTrove}
 use Rattle.change_set.specs.declared.change.Part.{Part}
 use Rattle.change_set.specs.declared.change.Part.TheVariants.{Whole, Relative}
 use Rattle.change_set.specs.ChangeSet.{IsPart}
-use Rattle.repository.specs.Between.{old_of, AreParts, IsPartOf}
+use Rattle.repository.specs.Between.{old_trove_of, ArePartsBetween, IsPartOf}
 
 -- one trove more
-pub parts_push : (old xs : List TroveParts) (t : TroveParts) (parts : List Part) (part : Option Part) → AreParts old xs parts → IsPartOf (old_of old t) t part → AreParts old (xs ++ t ∷ []) (parts ++ cons_option part [])
+pub parts_push : (old xs : List TroveParts) (t : TroveParts) (parts : List Part) (part : Option Part) → ArePartsBetween old xs parts → IsPartOf (old_trove_of old t) t part → ArePartsBetween old (xs ++ t ∷ []) (parts ++ cons_option part [])
 parts_push old [] t parts part so_far is = (part, [], is, refl, ap (λ (l : List Part). l ++ cons_option part []) so_far)
 parts_push old (x ∷ xs) t parts part so_far is = (
   so_far.0,
@@ -25,12 +25,12 @@ parts_push old (x ∷ xs) t parts part so_far is = (
     joined None rest more = refl
     joined (Some q) rest more = refl
 
-pub parts_more : (old fresh : List TroveParts) (i : ℕ) (t : TroveParts) (parts new : List Part) → i < length fresh → t ≡ get_or fresh i t → AreParts old (take i fresh) parts
-    → ((part : Option Part) × IsPartOf (old_of old t) t part × (new ≡ parts ++ cons_option part [])) → AreParts old (take (i + 1) fresh) new
+pub parts_more : (old fresh : List TroveParts) (i : ℕ) (t : TroveParts) (parts new : List Part) → i < length fresh → t ≡ get_or fresh i t → ArePartsBetween old (take i fresh) parts
+    → ((part : Option Part) × IsPartOf (old_trove_of old t) t part × (new ≡ parts ++ cons_option part [])) → ArePartsBetween old (take (i + 1) fresh) new
 parts_more old fresh i t parts new within is so_far pushed =
     let front : take (i + 1) fresh ≡ take i fresh ++ t ∷ [] = take_more fresh i t within ∙ ap (λ (u : TroveParts). take i fresh ++ u ∷ []) (sym is) in
-    subst (λ (l : List TroveParts). AreParts old l new) (sym front)
-    (subst (AreParts old (take i fresh ++ t ∷ [])) (sym pushed.2) (parts_push old (take i fresh) t parts pushed.0 so_far pushed.1))
+    subst (λ (l : List TroveParts). ArePartsBetween old l new) (sym front)
+    (subst (ArePartsBetween old (take i fresh ++ t ∷ [])) (sym pushed.2) (parts_push old (take i fresh) t parts pushed.0 so_far pushed.1))
 
 -- a part of a trove is a part
 pub part_valid : (o : Option TroveParts) (fresh : TroveParts) (part : Part) → IsTrove fresh → IsPartOf o fresh (Some part) → IsPart part

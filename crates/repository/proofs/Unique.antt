@@ -13,7 +13,7 @@ use Rattle.repo_load.specs.content-store.Contents.{ContentMap}
 use Rattle.repo_index.specs.Catalogue.{found, CatalogueParts}
 use Rattle.repo_load.specs.State.{catalogue_of, AreNew, RepositoryState}
 use Rattle.repository.specs.Parts.{AreMade, IsFirstRefused, IsLedTo, IsPartRefused, IsTroveRefused, LacksTrove, MakesTrove, MakeTroves, exists_already, path_reserved}
-use Rattle.repository.specs.Steps.{after_commit, IsStep}
+use Rattle.repository.specs.Steps.{after_commit, IsCommitStep}
 use Rattle.repository.specs.Tests.{later_refusal, IsLaterRefused, IsRefused, Passes}
 use Rattle.change_rel.proofs.Unique.{LeadsToOne}
 use Rattle.change_rel.specs.trove-stream.Forbidden.{IsAllowed}
@@ -172,7 +172,7 @@ module _ (one : LeadsToOne) (c : CatalogueParts) (held : ContentMap) (change : C
       let same : troves ≡ x.troves = made_once one c.troves change.parts troves x.troves passes.made x.made in
       absurd (cc (sym passes.passed ∙ ap (later_refusal c held change.contents) same ∙ x.fails))
 
-pub one_step : LeadsToOne → (r : RepositoryState) (change : ChangeSet) (a b : RepositoryState) → IsStep r change a → IsStep r change b → a ≡ b
+pub one_step : LeadsToOne → (r : RepositoryState) (change : ChangeSet) (a b : RepositoryState) → IsCommitStep r change a → IsCommitStep r change b → a ≡ b
 one_step one r change a b x y =
     let c = catalogue_of r.commits in
     let same : x.troves ≡ y.troves = made_once one c.troves change.parts x.troves y.troves x.passes.made y.passes.made in
@@ -181,5 +181,5 @@ one_step one r change a b x y =
 pub one_refusal : LeadsToOne → (r : RepositoryState) (change : ChangeSet) (a b : Refusal) → IsRefused (catalogue_of r.commits) r.contents change a → IsRefused (catalogue_of r.commits) r.contents change b → a ≡ b
 one_refusal one r change a b x y = refused_once one (catalogue_of r.commits) r.contents change a b x y
 
-pub step_apart : LeadsToOne → (r : RepositoryState) (change : ChangeSet) (new : RepositoryState) (refusal : Refusal) → IsStep r change new → IsRefused (catalogue_of r.commits) r.contents change refusal → ⊥
+pub step_apart : LeadsToOne → (r : RepositoryState) (change : ChangeSet) (new : RepositoryState) (refusal : Refusal) → IsCommitStep r change new → IsRefused (catalogue_of r.commits) r.contents change refusal → ⊥
 step_apart one r change new refusal step refused = passes_apart one (catalogue_of r.commits) r.contents change step.troves refusal step.passes refused

@@ -31,23 +31,23 @@ IsPartOf None fresh (Some (Relative rel)) = ⊥
 IsPartOf None fresh (Some (Whole trove)) = trove ≡ fresh
 
 -- the old trove of its name, if there is one
-abbrev pub old_of : List TroveParts → TroveParts → Option TroveParts
-old_of old fresh = trove_of fresh.id.name old
+abbrev pub old_trove_of : List TroveParts → TroveParts → Option TroveParts
+old_trove_of old fresh = trove_of fresh.id.name old
 
 -- what is told of each of the new troves, in their order
-abbrev pub AreParts : List TroveParts → List TroveParts → List Part → Type 0
-AreParts old [] parts = parts ≡ []
-AreParts old (t ∷ fresh) parts = (part : Option Part) × (rest : List Part) × IsPartOf (old_of old t) t part × AreParts old fresh rest × (parts ≡ cons_option part rest)
+abbrev pub ArePartsBetween : List TroveParts → List TroveParts → List Part → Type 0
+ArePartsBetween old [] parts = parts ≡ []
+ArePartsBetween old (t ∷ fresh) parts = (part : Option Part) × (rest : List Part) × IsPartOf (old_trove_of old t) t part × ArePartsBetween old fresh rest × (parts ≡ cons_option part rest)
 
 -- ---- contents
 
 -- the files of the old trove of its name; none where there is no such trove
 abbrev pub old_files : List TroveParts → TroveParts → List FileAt
-old_files old fresh = option_map_or (λ (t : TroveParts). t.files) (old_of old fresh) []
+old_files old fresh = option_map_or (λ (t : TroveParts). t.files) (old_trove_of old fresh) []
 
 -- A content of this name is sent: one of the new troves has a file with a content of this name, which the old trove of that name
 -- doesn't record at the file's path.
-pub record Sends (old fresh : List TroveParts) (name : List ℕ) : Type 0 where
+pub record SendsContent (old fresh : List TroveParts) (name : List ℕ) : Type 0 where
   pub trove : TroveParts
   pub there : Contains fresh trove
   pub sends : SendsName (old_files old trove) trove.files name
@@ -61,29 +61,29 @@ pub record RecordsContent (troves : List TroveParts) (name : List ℕ) (size : �
   pub content : content_of file.rec ≡ Some (name, size)
 
 -- the bytes have this name, and the size that each record of the new troves tells with it
-pub record IsSound (fresh : List TroveParts) (name bytes : List ℕ) : Type 0 where
+pub record IsSoundContent (fresh : List TroveParts) (name bytes : List ℕ) : Type 0 where
   pub named : sha1 bytes ≡ name
   pub sized : (size : ℕ) → RecordsContent fresh name size → length bytes ≡ size
 
-abbrev pub name_of : Carried → List ℕ
-name_of content = content.name
+abbrev pub carried_name : Carried → List ℕ
+carried_name content = content.name
 
 -- just the contents that are sent, by strictly rising names, each sound
 pub record AreContents (old fresh : List TroveParts) (contents : List Carried) : Type 0 where
   pub rising : IsStrictlySortedBy content_cmp contents
-  pub each : (name : List ℕ) → Contains (map name_of contents) name ↔ Sends old fresh name
-  pub sound : All (λ (content : Carried). IsSound fresh content.name content.bytes) contents
+  pub each : (name : List ℕ) → Contains (map carried_name contents) name ↔ SendsContent old fresh name
+  pub sound : All (λ (content : Carried). IsSoundContent fresh content.name content.bytes) contents
 
 -- ---- the set
 
 -- The change set leads from the old troves to the new ones: the parts of the new ones, and the contents that are sent with them.
-pub record IsBetween (old fresh : List TroveParts) (set : ChangeSet) : Type 0 where
-  pub parts : AreParts old fresh set.parts
+pub record LeadsBetween (old fresh : List TroveParts) (set : ChangeSet) : Type 0 where
+  pub parts : ArePartsBetween old fresh set.parts
   pub contents : AreContents old fresh set.contents
 
 -- each content is that which stands under its name in the repository
-abbrev pub AreStored : Tree → List Carried → Type 0
-AreStored tree contents = All (λ (content : Carried). stored tree contents_dir content.name ≡ Some content.bytes) contents
+abbrev pub AreStoredIn : Tree → List Carried → Type 0
+AreStoredIn tree contents = All (λ (content : Carried). stored tree contents_dir content.name ≡ Some content.bytes) contents
 
 abbrev pub HasStored : Tree → ChangeSet → Type 0
-HasStored tree set = AreStored tree set.contents
+HasStored tree set = AreStoredIn tree set.contents

@@ -10,14 +10,14 @@ use Rattle.repo_load.specs.tree-disk.Tree.{Name, Tree}
 use Rattle.repo_load.specs.content-store.Store.{stored}
 use Rattle.repo_load.specs.Files.{contents_dir}
 use Rattle.repo_load.specs.Contents.{IsDamagedContent}
-use Rattle.repository.specs.Between.{Sends}
+use Rattle.repository.specs.Between.{SendsContent}
 
 -- ---- names
 
 -- the names of the contents that are sent, strictly rising
 pub record AreNames (old fresh : List TroveParts) (names : List (List ℕ)) : Type 0 where
   pub rising : IsStrictlySortedBy name_cmp names
-  pub each : (name : List ℕ) → Contains names name ↔ Sends old fresh name
+  pub each : (name : List ℕ) → Contains names name ↔ SendsContent old fresh name
 
 -- ---- contents
 
@@ -53,7 +53,7 @@ abbrev pub SizeFits : List Carried → List ℕ → ℕ → Type 0
 SizeFits contents name size = (content : Carried) → Contains contents content → content.name ≡ name → length content.bytes ≡ size
 
 -- one of this name, which is the other name too, has another size
-pub record IsOther (contents : List Carried) (name : List ℕ) (size : ℕ) (other : List ℕ) : Type 0 where
+pub record IsOtherSize (contents : List Carried) (name : List ℕ) (size : ℕ) (other : List ℕ) : Type 0 where
   pub content : Carried
   pub among : Contains contents content
   pub named : content.name ≡ name
@@ -69,7 +69,7 @@ pub record FileHasOther (contents : List Carried) (file : FileAt) (other : List 
   pub name : List ℕ
   pub size : ℕ
   pub content : content_of file.rec ≡ Some (name, size)
-  pub is : IsOther contents name size other
+  pub is : IsOtherSize contents name size other
 
 abbrev pub FilesFit : List Carried → List FileAt → Type 0
 FilesFit contents files = (file : FileAt) → Contains files file → FileFits contents file

@@ -23,7 +23,7 @@ use Rattle.repo_load.specs.Counts.{Counts}
 use Rattle.repo_load.specs.State.{records_content, RepositoryState}
 use Rattle.repo_load.specs.Files.{contents_dir, repository_base, HoldsCatalogue, StoresRepository}
 use Rattle.repo_load.specs.Contents.{FindsContent, IsDamagedContent}
-use Rattle.repository.specs.Steps.{after_commit, catalogue_after, ids_of, IsOldOrNew, RecoversToEither}
+use Rattle.repository.specs.Steps.{after_commit, catalogue_after, ids_of, IsOldOrNew, RecoversToEitherRepository}
 use Rattle.repository.specs.Parts.{AreMade}
 use Rattle.repository.specs.Tests.{missing_ref, refs_of, IsRefused, Passes}
 
@@ -43,14 +43,14 @@ committed_contents troves tree name = if_recorded troves name (stored tree conte
 
 -- A disk on which a commit may be made: the catalogue is that of the commits that its files hold, and the commit flag isn't
 -- set, also after a crash.
-pub record IsAtRest {D : Type 0} (disk : DiskModel D) (c : CatalogueParts) (d : D) : Type 0 where
+pub record MayCommit {D : Type 0} (disk : DiskModel D) (c : CatalogueParts) (d : D) : Type 0 where
   pub holds : HoldsCatalogue (disk.reads d) c
   pub flag_clear : is_committed repository_base (disk.reads d) ≡ false
   pub flag_synced : disk.unsynced d (gate repository_base) ≡ false
 
 -- No name changed since the last sync on which it depends whether a tree stores this repository.
-abbrev pub IsSettled : {D : Type 0} → DiskModel D → D → RepositoryState → Type 0
-IsSettled disk d r = (q : Name) → Counts r q → disk.unsynced d q ≡ false
+abbrev pub IsSyncedFor : {D : Type 0} → DiskModel D → D → RepositoryState → Type 0
+IsSyncedFor disk d r = (q : Name) → Counts r q → disk.unsynced d q ≡ false
 
 -- A reading of each of these contents finds its bytes: they stand under its name, which is their SHA-1, and one of the troves
 -- records a file of this name and of their size.
@@ -63,17 +63,17 @@ CanBeRead contents troves tree = All (λ (c : Carried). FindsContent troves c.na
 -- another one is damaged, and each repository that the disk stored became that after the commit. Where no name counted for it
 -- had changed since the last sync, none has now, and a crash leaves a tree that recovers to that after the commit alone (the law
 -- `at_rest`).
-pub record IsDone {D : Type 0} (disk : DiskModel D) (change : ChangeSet) (c c' : CatalogueParts) (ids : List TroveId) (old new : D) : Type 0 where
+pub record IsCommitDone {D : Type 0} (disk : DiskModel D) (change : ChangeSet) (c c' : CatalogueParts) (ids : List TroveId) (old new : D) : Type 0 where
   pub troves : List TroveParts
   pub passes : Passes c (committed_contents c.troves (disk.reads old)) change troves
   pub ids_are : ids ≡ ids_of troves
   pub catalogue_is : c' ≡ catalogue_after troves c
-  pub rests : IsAtRest disk c' new
+  pub rests : MayCommit disk c' new
   pub contents : CanBeRead change.contents c'.troves (disk.reads new)
   pub stores : (r : RepositoryState) → StoresRepository (disk.reads old) r → StoresRepository (disk.reads new) (after_commit troves change.contents r)
   -- no name became unsynced
   pub calm : (q : Name) → IsUnsynced disk new q → IsUnsynced disk old q
-  pub settled : (r : RepositoryState) → StoresRepository (disk.reads old) r → IsSettled disk old r → IsSettled disk new (after_commit troves change.contents r)
+  pub settled : (r : RepositoryState) → StoresRepository (disk.reads old) r → IsSyncedFor disk old r → IsSyncedFor disk new (after_commit troves change.contents r)
 
 -- a carried content of this name, that was committed, is damaged at this path
 pub record IsDamagedSource (contents : List Carried) (troves : List TroveParts) (tree : Tree) (path : Name) : Type 0 where
@@ -86,37 +86,37 @@ abbrev pub AreSound : List Carried → List TroveParts → Tree → Type 0
 AreSound contents troves tree = All (λ (c : Carried). (path : Name) → IsDamagedContent troves c.name tree path → ⊥) contents
 
 -- Why it stopped, where the disk tells its tree. What is refused, or stops at a damaged content, changes nothing.
-abbrev pub StopsSo : {D : Type 0} → DiskModel D → ChangeSet → CatalogueParts → CatalogueParts → D → D → Stop → Type 0
-StopsSo disk change c c' old new (Refused refusal) = HasRead disk old new (IsRefused c (committed_contents c.troves (disk.reads old)) change refusal) × (c' ≡ c)
-StopsSo disk change c c' old new (Damaged path) = HasRead disk old new (IsDamagedSource change.contents c.troves (disk.reads old) path) × (c' ≡ c)
-StopsSo disk change c c' old new Failed = Unit {0}
-StopsSo disk change c c' old new Memory = Unit {0}
-StopsSo disk change c c' old new FarFailed = ⊥
-StopsSo disk change c c' old new (FarDamaged path) = ⊥
+abbrev pub CommitStopsSo : {D : Type 0} → DiskModel D → ChangeSet → CatalogueParts → CatalogueParts → D → D → Stop → Type 0
+CommitStopsSo disk change c c' old new (Refused refusal) = HasRead disk old new (IsRefused c (committed_contents c.troves (disk.reads old)) change refusal) × (c' ≡ c)
+CommitStopsSo disk change c c' old new (Damaged path) = HasRead disk old new (IsDamagedSource change.contents c.troves (disk.reads old) path) × (c' ≡ c)
+CommitStopsSo disk change c c' old new Failed = Unit {0}
+CommitStopsSo disk change c c' old new Memory = Unit {0}
+CommitStopsSo disk change c c' old new FarFailed = ⊥
+CommitStopsSo disk change c c' old new (FarDamaged path) = ⊥
 
 -- on every disk: a fault only where the count rose, and none of another disk
-abbrev pub HasCause : ℕ → ℕ → Stop → Type 0
-HasCause before now Failed = Rose before now
-HasCause before now Memory = Unit {0}
-HasCause before now (Refused refusal) = Unit {0}
-HasCause before now (Damaged path) = Unit {0}
-HasCause before now FarFailed = ⊥
-HasCause before now (FarDamaged path) = ⊥
+abbrev pub HasCommitCause : ℕ → ℕ → Stop → Type 0
+HasCommitCause before now Failed = Rose before now
+HasCommitCause before now Memory = Unit {0}
+HasCommitCause before now (Refused refusal) = Unit {0}
+HasCommitCause before now (Damaged path) = Unit {0}
+HasCommitCause before now FarFailed = ⊥
+HasCommitCause before now (FarDamaged path) = ⊥
 
 abbrev pub EndsSo : {D : Type 0} → DiskModel D → ChangeSet → CatalogueParts → CatalogueParts → D → D → Result (List TroveId) Stop → Type 0
-EndsSo disk change c c' old new (Ok ids) = IsDone disk change c c' ids old new
-EndsSo disk change c c' old new (Err stop) = StopsSo disk change c c' old new stop
+EndsSo disk change c c' old new (Ok ids) = IsCommitDone disk change c c' ids old new
+EndsSo disk change c c' old new (Err stop) = CommitStopsSo disk change c c' old new stop
 
 -- There is one repository, that before or that after the commit, such that at every moment a crash leaves a tree that recovers to
 -- the one before or to it; and so does what the disk reads at the end.
 pub record HasMoments {D : Type 0} (disk : DiskModel D) (change : ChangeSet) (old new : D) (r : RepositoryState) : Type 0 where
   pub next : RepositoryState
   pub is : IsOldOrNew r change next
-  pub images : LeavesOnly disk old new (RecoversToEither r next)
-  pub reads : RecoversToEither r next (disk.reads new)
+  pub images : LeavesOnly disk old new (RecoversToEitherRepository r next)
+  pub reads : RecoversToEitherRepository r next (disk.reads new)
 
 abbrev pub AtEveryMoment : {D : Type 0} → DiskModel D → ChangeSet → D → D → RepositoryState → Type 0
-AtEveryMoment disk change old new r = StoresRepository (disk.reads old) r → IsSettled disk old r → HasMoments disk change old new r
+AtEveryMoment disk change old new r = StoresRepository (disk.reads old) r → IsSyncedFor disk old r → HasMoments disk change old new r
 
 -- ---- the tests
 
@@ -137,7 +137,7 @@ pub record TestsChange {D : Type 0} (disk : DiskModel D) (change : ChangeSet) (c
 
 -- What holds on every disk where the tests pass: the troves are made, and where there are any, none has a missing reference,
 -- and there is room for a commit.
-pub record MayJoin (c : CatalogueParts) (parts : List Part) (troves : List TroveParts) : Type 0 where
+pub record MayBeAdded (c : CatalogueParts) (parts : List Part) (troves : List TroveParts) : Type 0 where
   pub made : AreMade c.troves parts troves
   pub refs : troves ≢ [] → missing_ref (c.troves ++ troves) (refs_of troves) ≡ None
   pub few : troves ≢ [] → c.commits < COMMITS_LIMIT

@@ -63,7 +63,7 @@ pub data IsWrittenName (c : CatalogueParts) (contents : List Carried) (q : Name)
   own : IsTrue (is_own repository_base q) → IsWrittenName c contents q
 
 -- The base and the new contents stand, and nothing at the name behind that of the new file.
-pub record IsReady (c : CatalogueParts) (contents : List Carried) (tree : Tree) : Type 0 where
+pub record IsPreparedFor (c : CatalogueParts) (contents : List Carried) (tree : Tree) : Type 0 where
   pub base : IsTrue (is_dir_at tree repository_base)
   pub stand : AreStored c contents tree
   pub nothing_behind : get tree (commit_file (c.commits + 2)) ≡ None
@@ -71,34 +71,34 @@ pub record IsReady (c : CatalogueParts) (contents : List Carried) (tree : Tree) 
 -- ---- the commit's file
 
 -- The tree x1 is x, made ready for the file of a commit: all else is as it was.
-pub record IsReadied (c : CatalogueParts) (contents : List Carried) (x x1 : Tree) : Type 0 where
+pub record IsPreparedFrom (c : CatalogueParts) (contents : List Carried) (x x1 : Tree) : Type 0 where
   pub kept : AgreesExcept (IsPreparedName c) x1 x
-  pub ready : IsReady c contents x1
+  pub ready : IsPreparedFor c contents x1
 
 -- the tree with the file of a commit of these troves
-abbrev pub with_file : CatalogueParts → List TroveParts → Tree → Tree
-with_file c troves tree = with_targets (commit_put (c.commits + 1) file_mode troves ∷ []) tree
+abbrev pub with_commit_file : CatalogueParts → List TroveParts → Tree → Tree
+with_commit_file c troves tree = with_targets (commit_put (c.commits + 1) file_mode troves ∷ []) tree
 
 -- a tree that is made ready, with the commit's file, in which the streams of the troves have room
-pub record IsWritten (c : CatalogueParts) (contents : List Carried) (troves : List TroveParts) (x y : Tree) : Type 0 where
+pub record IsWrittenFrom (c : CatalogueParts) (contents : List Carried) (troves : List TroveParts) (x y : Tree) : Type 0 where
   pub troves_are : All IsTrove troves
   pub fits : All FitsTrove troves
   pub readied : Tree
-  pub is_readied : IsReadied c contents x readied
-  pub same : StoresSame repository_base y (with_file c troves readied)
+  pub is_readied : IsPreparedFrom c contents x readied
+  pub same : StoresSame repository_base y (with_commit_file c troves readied)
 
 -- The image recovers to a tree that differs from x at these names alone, or to one with the commit's file.
 pub record RecoversSo (names : Name → Type 0) (c : CatalogueParts) (contents : List Carried) (troves : List TroveParts) (x image : Tree) : Type 0 where
   pub tree : Tree
   pub recovers : RecoversTo repository_base image tree
-  pub is : AgreesExcept names tree x ⊎ IsWritten c contents troves x tree
+  pub is : AgreesExcept names tree x ⊎ IsWrittenFrom c contents troves x tree
 
 -- How the writing of a commit goes, which changes names in the repository's directory alone: a crash at any moment, and an
 -- error, leave a tree that recovers to one in which what counts is as it was, or to one with the commit's file; after Ok that
 -- stands, and a crash leaves what is read.
-pub record Writes {D : Type 0} (disk : DiskModel D) (c : CatalogueParts) (contents : List Carried) (troves : List TroveParts) (old new : D) (result : Result Unit Stop) : Type 0 where
+pub record WritesCommit {D : Type 0} (disk : DiskModel D) (c : CatalogueParts) (contents : List Carried) (troves : List TroveParts) (old new : D) (result : Result Unit Stop) : Type 0 where
   pub later : disk.faults old ≤ disk.faults new
-  pub ends : EndsWith disk.tells (IsUntold disk.tells) (IsWritten c contents troves (disk.reads old) (disk.reads new)) result (disk.faults old) (disk.faults new)
+  pub ends : EndsWith disk.tells (IsUntold disk.tells) (IsWrittenFrom c contents troves (disk.reads old) (disk.reads new)) result (disk.faults old) (disk.faults new)
   pub flag_clear : IsTrue disk.tells → OnOk result (is_committed repository_base (disk.reads new) ≡ false)
   pub synced : IsTrue disk.tells → OnOk result (IsSynced disk new)
   pub any_moment : IsTrue disk.tells → LeavesOnly disk old new (RecoversSo (IsUnsyncedOr disk old (IsPreparedName c)) c contents troves (disk.reads old))

@@ -17,13 +17,13 @@ use Rattle.repository.specs.Tests.{Passes}
 
 -- ---- values
 
-abbrev pub bytes_of : Option Carried → Option (List ℕ)
-bytes_of None = None
-bytes_of (Some content) = Some content.bytes
+abbrev pub bytes_if_carried : Option Carried → Option (List ℕ)
+bytes_if_carried None = None
+bytes_if_carried (Some content) = Some content.bytes
 
 -- the bytes that are carried under a name
 abbrev pub carried : List Carried → ContentMap
-carried contents name = bytes_of (find (λ (content : Carried). bytes_eq content.name name) contents)
+carried contents name = bytes_if_carried (find (λ (content : Carried). bytes_eq content.name name) contents)
 
 abbrev pub or_carried : Option (List ℕ) → Option (List ℕ) → Option (List ℕ)
 or_carried None bytes = bytes
@@ -49,7 +49,7 @@ ids_of troves = map (λ (t : TroveParts). t.id) troves
 -- ---- states
 
 -- the change set makes this repository of another, and no test fails
-pub record IsStep (r : RepositoryState) (change : ChangeSet) (new : RepositoryState) : Type 0 where
+pub record IsCommitStep (r : RepositoryState) (change : ChangeSet) (new : RepositoryState) : Type 0 where
   pub troves : List TroveParts
   pub passes : Passes (catalogue_of r.commits) r.contents change troves
   pub is : new ≡ after_commit troves change.contents r
@@ -67,8 +67,8 @@ pub record RecoversAlone (image : Tree) (r : RepositoryState) : Type 0 where
 
 -- the repository before, or the one after the commit
 abbrev pub IsOldOrNew : RepositoryState → ChangeSet → RepositoryState → Type 0
-IsOldOrNew r change next = (next ≡ r) ⊎ IsStep r change next
+IsOldOrNew r change next = (next ≡ r) ⊎ IsCommitStep r change next
 
 -- it recovers to one of two repositories
-abbrev pub RecoversToEither : RepositoryState → RepositoryState → Tree → Type 0
-RecoversToEither r next image = RecoversToRepository image r ⊎ RecoversToRepository image next
+abbrev pub RecoversToEitherRepository : RepositoryState → RepositoryState → Tree → Type 0
+RecoversToEitherRepository r next image = RecoversToRepository image r ⊎ RecoversToRepository image next

@@ -39,13 +39,13 @@ abbrev pub is_carried : List ℕ → ℕ → Carried → Bool
 is_carried name size content = bytes_eq content.name name && (length content.bytes == size)
 
 -- a content of this name and this size is carried, or a committed trove records one
-abbrev pub has_source : List TroveParts → List Carried → List ℕ → ℕ → Bool
-has_source committed contents name size = list_any (is_carried name size) contents || records_content name size committed
+abbrev pub has_content_source : List TroveParts → List Carried → List ℕ → ℕ → Bool
+has_content_source committed contents name size = list_any (is_carried name size) contents || records_content name size committed
 
 -- a record of a content that is neither carried nor committed
 abbrev pub lacks_content : List TroveParts → List Carried → FileRec → Option Refusal
 lacks_content committed contents (Dir mode owner) = None
-lacks_content committed contents (File mode owner flags size name) = if has_source committed contents name size then None else Some (MissingContent name)
+lacks_content committed contents (File mode owner flags size name) = if has_content_source committed contents name size then None else Some (MissingContent name)
 lacks_content committed contents (Link target) = None
 
 -- the first such record

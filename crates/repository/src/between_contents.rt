@@ -3,7 +3,7 @@ ghost use Rattle.std.specs.Prelude.{◌≡◌, true, All, IfOk, List, ℕ, map};
 ghost use Rattle.repo_index.specs.Catalogue.{has_content};
 ghost use Rattle.repo_load.specs.Contents.{IsDamagedContent};
 ghost use Rattle.repo_load.specs.Looks.{Looks};
-ghost use Rattle.repository.specs.Between.{name_of, AreStored};
+ghost use Rattle.repository.specs.Between.{carried_name, AreStoredIn};
 ghost use Rattle.repository.specs.BetweenSteps.{IsDamagedAmong, IsHashed, IsStoredAs};
 
 use change_set::{Carried, CarriedList};
@@ -39,8 +39,8 @@ pub(crate) fn read_contents<D: TreeDisk>(
     names: &[[u8; 20]],
 ) -> Result<CarriedList, Stop>
     requires { All (λ (name : List ℕ). has_content name catalogue.now.troves ≡ true) names.now }
-    ensures looks { Looks D.disk AreStored (IsDamagedAmong catalogue.now.troves names.now) disk.old disk.new result }
-    ensures names { IfOk result (λ contents. map name_of contents ≡ names.now) }
+    ensures looks { Looks D.disk AreStoredIn (IsDamagedAmong catalogue.now.troves names.now) disk.old disk.new result }
+    ensures names { IfOk result (λ contents. map carried_name contents ≡ names.now) }
     ensures hashes { IfOk result (All IsHashed) }
 {
     let mut contents = Vec::new(alloc);

@@ -5,7 +5,7 @@ ghost use Rattle.std.specs.Option.{option_copied};
 ghost use Rattle.change_set.specs.declared.change.Part.{Part};
 ghost use Rattle.change_set.specs.ChangeSet.{IsPart};
 ghost use Rattle.repo_load.specs.trove-stream.Installed.{trove_of, IsRising};
-ghost use Rattle.repository.specs.Between.{old_of, AreParts, IsPartOf};
+ghost use Rattle.repository.specs.Between.{old_trove_of, ArePartsBetween, IsPartOf};
 
 use change_rel::relative;
 use change_set::{Part, Parts};
@@ -47,7 +47,7 @@ fn push_part(
     fresh: &Trove,
 ) -> Result<(), OutOfMemory>
     requires { IsRising old.now }
-    ensures pushed { OnOk result ((part : Option Part) × IsPartOf (old_of old.now fresh.now) fresh.now part
+    ensures pushed { OnOk result ((part : Option Part) × IsPartOf (old_trove_of old.now fresh.now) fresh.now part
         × (parts.new.items ≡ parts.old.items ++ cons_option part [])) }
     ensures valid { OnOk result (All IsPart parts.old.items → All IsPart parts.new.items) }
 {
@@ -66,7 +66,7 @@ pub(crate) fn parts_between(
     fresh: &[Trove],
 ) -> Result<Parts, OutOfMemory>
     requires { IsRising old.now }
-    ensures parts { IfOk result (AreParts old.now fresh.now) }
+    ensures parts { IfOk result (ArePartsBetween old.now fresh.now) }
     ensures valid { IfOk result (All IsPart) }
 {
     let mut parts = Vec::new(alloc);

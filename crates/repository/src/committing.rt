@@ -6,7 +6,7 @@ ghost use Rattle.change_set.specs.ChangeSet.{HasContents};
 ghost use Rattle.repo_load.specs.Files.{repository_base};
 ghost use Rattle.repo_load.specs.State.{RepositoryState};
 ghost use Rattle.repo_load.specs.Loading.{IsCatalogue};
-ghost use Rattle.repository.specs.Outcome.{AreSound, AtEveryMoment, EndsSo, HasCause, IsAtRest};
+ghost use Rattle.repository.specs.Outcome.{AreSound, AtEveryMoment, EndsSo, HasCommitCause, MayCommit};
 ghost use Rattle.repository.specs.Order.{IsFirstStop};
 ghost use Rattle.repository.specs.Preparing.{IsWrittenName};
 
@@ -43,7 +43,7 @@ pub fn commit<D: TreeDisk>(
     change: &ChangeSet,
 ) -> Result<TroveIds, Stop>
     requires contents { HasContents change.now }
-    requires rests { IsTrue D.disk.tells → IsAtRest D.disk catalogue.old disk.old }
+    requires rests { IsTrue D.disk.tells → MayCommit D.disk catalogue.old disk.old }
     // Which repository is stored, what is answered and what was refused.
     ensures ends { IsTrue D.disk.tells → EndsSo D.disk change.now catalogue.old catalogue.new disk.old disk.new result }
     // Where troves are added, no committed content under the name of a carried one is damaged.
@@ -64,7 +64,7 @@ pub fn commit<D: TreeDisk>(
     // On every disk the catalogue keeps the rules.
     ensures rules { IsCatalogue catalogue.old → OnOk result (IsCatalogue catalogue.new) }
     ensures later { D.disk.faults disk.old ≤ D.disk.faults disk.new }
-    ensures causes { IfErr result (HasCause (D.disk.faults disk.old) (D.disk.faults disk.new)) }
+    ensures causes { IfErr result (HasCommitCause (D.disk.faults disk.old) (D.disk.faults disk.new)) }
 {
     stored_state();
     let added = tested(alloc, disk, catalogue, change)?;

@@ -28,7 +28,7 @@ fn is_carried(contents: &[Carried], name: &[u8; 20], size: usize) -> bool
 // Whether a content of this name and this size is carried, or a committed trove records one.
 fn has_source(committed: &Catalogue, contents: &[Carried], name: &[u8; 20], size: usize) -> bool
     requires { IsStrictlySortedBy content_cmp contents.now }
-    ensures { result ≡ tests.has_source committed.now.troves contents.now name.now size }
+    ensures { result ≡ tests.has_content_source committed.now.troves contents.now name.now size }
 {
     let carried = is_carried(contents, name, size);
     carried || committed.records_content(name, size)

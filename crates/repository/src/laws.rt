@@ -11,9 +11,9 @@ ghost use Rattle.repo_load.specs.content-store.Store.{content_path, IsContentNam
 ghost use Rattle.repo_index.specs.Catalogue.{has_content, CatalogueParts};
 ghost use Rattle.repo_load.specs.Files.{commit_file, contents_dir, StoresRepository};
 ghost use Rattle.repo_load.specs.State.{catalogue_of, troves_of, IsRepository, RepositoryState};
-ghost use Rattle.repository.specs.Outcome.{committed_contents, IsAtRest, IsSettled};
+ghost use Rattle.repository.specs.Outcome.{committed_contents, MayCommit, IsSyncedFor};
 ghost use Rattle.repository.specs.Preparing.{IsWrittenName};
-ghost use Rattle.repository.specs.Steps.{IsStep, RecoversAlone};
+ghost use Rattle.repository.specs.Steps.{IsCommitStep, RecoversAlone};
 ghost use Rattle.repository.specs.Tests.{IsRefused};
 
 use change_rel::one_result;
@@ -23,12 +23,12 @@ use repo_load::tree_disk::TreeDisk;
 /// A commit of a repository gives a repository, one alone; or it is refused, for one reason alone.
 pub fn commit_step()
     ensures repository { (r new : RepositoryState) (change : ChangeSet) → IsRepository r → HasContents change → All IsPart change.parts
-        → IsStep r change new → IsRepository new }
-    ensures one { (r : RepositoryState) (change : ChangeSet) (a b : RepositoryState) → IsStep r change a → IsStep r change b → a ≡ b }
+        → IsCommitStep r change new → IsRepository new }
+    ensures one { (r : RepositoryState) (change : ChangeSet) (a b : RepositoryState) → IsCommitStep r change a → IsCommitStep r change b → a ≡ b }
     ensures one_refusal { (r : RepositoryState) (change : ChangeSet) (a b : Refusal) → IsRefused (catalogue_of r.commits) r.contents change a
         → IsRefused (catalogue_of r.commits) r.contents change b → a ≡ b }
     // None is both made and refused.
-    ensures apart { (r : RepositoryState) (change : ChangeSet) (new : RepositoryState) (refusal : Refusal) → IsStep r change new
+    ensures apart { (r : RepositoryState) (change : ChangeSet) (new : RepositoryState) (refusal : Refusal) → IsCommitStep r change new
         → IsRefused (catalogue_of r.commits) r.contents change refusal → ⊥ }
 {
     one_result();
@@ -52,10 +52,10 @@ pub fn kept_files()
 /// A disk at rest that stores a repository recovers to that alone: as it reads, and, where no name that counts for it has
 /// changed since the last sync, after a crash.
 pub fn at_rest<D: TreeDisk>()
-    ensures reads { (d : D) (c : CatalogueParts) (r : RepositoryState) → IsAtRest D.disk c d → StoresRepository (D.disk.reads d) r
+    ensures reads { (d : D) (c : CatalogueParts) (r : RepositoryState) → MayCommit D.disk c d → StoresRepository (D.disk.reads d) r
         → RecoversAlone (D.disk.reads d) r }
-    ensures crash { (d : D) (c : CatalogueParts) (r : RepositoryState) (image : Tree) → IsAtRest D.disk c d → StoresRepository (D.disk.reads d) r
-        → IsSettled D.disk d r → IsImageOf D.disk d image → RecoversAlone image r }
+    ensures crash { (d : D) (c : CatalogueParts) (r : RepositoryState) (image : Tree) → MayCommit D.disk c d → StoresRepository (D.disk.reads d) r
+        → IsSyncedFor D.disk d r → IsImageOf D.disk d image → RecoversAlone image r }
 {
     one_repository();
 }

@@ -2,7 +2,7 @@
 ghost use Rattle.std.specs.Prelude.{◌≡◌, ◌↔◌, ◌⊎◌, ◌++◌, IfOk, OnOk, Contains, List, ℕ};
 ghost use Rattle.change_rel.specs.Sending.{AreSent, SendsName};
 ghost use Rattle.repo_load.specs.trove-stream.Installed.{IsRising};
-ghost use Rattle.repository.specs.Between.{old_files, Sends};
+ghost use Rattle.repository.specs.Between.{old_files, SendsContent};
 ghost use Rattle.repository.specs.BetweenSteps.{AreNames};
 
 use crate::between_parts::trove_named;
@@ -51,7 +51,7 @@ fn push_names(
 // The names of the contents that are sent, in the order of the troves.
 fn all_names(alloc: Global, old: &[Trove], fresh: &[Trove]) -> Result<Vec<[u8; 20]>, OutOfMemory>
     requires { IsRising old.now }
-    ensures { IfOk result (λ names. (name : List ℕ) → Contains names.items name ↔ Sends old.now fresh.now name) }
+    ensures { IfOk result (λ names. (name : List ℕ) → Contains names.items name ↔ SendsContent old.now fresh.now name) }
 {
     let mut names = Vec::new(alloc);
     for trove in fresh {

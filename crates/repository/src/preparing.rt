@@ -15,7 +15,7 @@ ghost use Rattle.repo_load.specs.content-store.Store.{content_path, stored};
 ghost use Rattle.repo_index.specs.Catalogue.{has_content};
 ghost use Rattle.repo_load.specs.Counts.{IsPreparedName};
 ghost use Rattle.repo_load.specs.Files.{commit_file, contents_dir, repository_base};
-ghost use Rattle.repository.specs.Preparing.{is_dir_name, AreStored, IsCarriedName, IsPutName, IsReady, IsStored, IsUntold, IsWrittenName};
+ghost use Rattle.repository.specs.Preparing.{is_dir_name, AreStored, IsCarriedName, IsPutName, IsPreparedFor, IsStored, IsUntold, IsWrittenName};
 
 use change_set::Carried;
 use repo_index::Catalogue;
@@ -127,7 +127,7 @@ pub(crate) fn prepare<D: TreeDisk>(
     requires few { committed.now.commits < COMMITS_LIMIT }
     requires hash { All (λ (content : Carried). content.name ≡ sha1 content.bytes) contents.now }
     requires rising { IsStrictlySortedBy content_cmp contents.now }
-    ensures prepares { Prepares D.disk (IsUntold D.disk.tells) (IsPreparedName committed.now) (IsReady committed.now contents.now) disk.old disk.new result }
+    ensures prepares { Prepares D.disk (IsUntold D.disk.tells) (IsPreparedName committed.now) (IsPreparedFor committed.now contents.now) disk.old disk.new result }
     // Of the contents it changes the carried ones alone.
     ensures only { IsTrue D.disk.tells → Confined D.disk (IsWrittenName committed.now contents.now) disk.old disk.new }
 {

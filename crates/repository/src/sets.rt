@@ -4,7 +4,7 @@ ghost use Rattle.change_set.specs.ChangeSet.{HasContents, IsPart};
 ghost use Rattle.repo_load.specs.trove-stream.Installed.{IsRising};
 ghost use Rattle.repo_load.specs.Looks.{Looks};
 ghost use Rattle.repo_index.specs.Catalogue.{AreCommitted};
-ghost use Rattle.repository.specs.Between.{AreContents, AreStored, HasStored, IsBetween};
+ghost use Rattle.repository.specs.Between.{AreContents, AreStoredIn, HasStored, LeadsBetween};
 ghost use Rattle.repository.specs.Damage.{IsDamagedBetween};
 ghost use Rattle.repository.specs.BetweenSteps.{IsHashed};
 
@@ -30,7 +30,7 @@ fn contents_between<D: TreeDisk>(
 ) -> Result<CarriedList, Stop>
     requires committed { AreCommitted catalogue.now.troves fresh.now }
     requires rises { IsRising old.now }
-    ensures looks { Looks D.disk AreStored (IsDamagedBetween old.now fresh.now) disk.old disk.new result }
+    ensures looks { Looks D.disk AreStoredIn (IsDamagedBetween old.now fresh.now) disk.old disk.new result }
     ensures contents { IfOk result (AreContents old.now fresh.now) }
     ensures hashes { IfOk result (All IsHashed) }
 {
@@ -67,7 +67,7 @@ pub fn between<D: TreeDisk>(
     requires old_rises { IsRising old.now }
     ensures looks { Looks D.disk HasStored (IsDamagedBetween old.now fresh.now) disk.old disk.new result }
     // On every disk.
-    ensures between { IfOk result (IsBetween old.now fresh.now) }
+    ensures between { IfOk result (LeadsBetween old.now fresh.now) }
     // So it is a change set, unless it is too large for one.
     ensures parts { IfOk result (λ set. All IsPart set.parts) }
     ensures contents { IfOk result HasContents }

@@ -2,7 +2,7 @@
 ghost use Rattle.std.specs.Prelude.{IfNone, IfSome};
 ghost use Rattle.std.specs.List.Sorted.{IsStrictlySortedBy};
 ghost use Rattle.change_set.specs.ChangeSet.{content_cmp};
-ghost use Rattle.repository.specs.BetweenSteps.{AllFit, FileFits, FileHasOther, FilesFit, FilesHaveOther, HasOther, IsNamed, IsOther, IsUnnamed, SizeFits};
+ghost use Rattle.repository.specs.BetweenSteps.{AllFit, FileFits, FileHasOther, FilesFit, FilesHaveOther, HasOther, IsNamed, IsOtherSize, IsUnnamed, SizeFits};
 
 use change_set::Carried;
 use repo_load::file_stream::FileRec;
@@ -24,7 +24,7 @@ fn content_named<'a>(contents: &'a [Carried], name: &[u8; 20]) -> Option<&'a Car
 // Its name, if it has another size.
 fn other_size(contents: &[Carried], name: &[u8; 20], size: u32) -> Option<[u8; 20]>
     requires { IsStrictlySortedBy content_cmp contents.now }
-    ensures other { IfSome result (λ other. IsOther contents.now name.now size other) }
+    ensures other { IfSome result (λ other. IsOtherSize contents.now name.now size other) }
     ensures fits { IfNone result (SizeFits contents.now name.now size) }
 {
     let Some(content) = content_named(contents, name) else {

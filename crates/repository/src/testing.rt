@@ -3,7 +3,7 @@ ghost use Rattle.std.specs.Prelude.{◌≡◌, ◌≢◌, ◌<◌, ◌++◌, [],
 ghost use Rattle.std.specs.List.Sorted.{IsStrictlySortedBy};
 ghost use Rattle.change_set.specs.ChangeSet.{content_cmp};
 ghost use Rattle.repo_load.specs.cny-base.declared.limits.TheConstants.{COMMITS_LIMIT};
-ghost use Rattle.repository.specs.Outcome.{committed_contents, AreSound, IsDamagedSource, MayJoin, TestsChange};
+ghost use Rattle.repository.specs.Outcome.{committed_contents, AreSound, IsDamagedSource, MayBeAdded, TestsChange};
 ghost use Rattle.repository.specs.Order.{later_stop, IsFirstStop, StopsAs};
 ghost use Rattle.repository.specs.Tests.{later_refusal, missing_ref, refs_of, too_many};
 ghost use Rattle.repository.specs.Verdict.{Checks, IsVerdict};
@@ -72,7 +72,7 @@ pub(crate) fn tested<D: TreeDisk>(
     ensures sound { IsTrue D.disk.tells → IfOk result (λ added. added.troves ≢ [] → AreSound change.now.contents committed.now.troves (D.disk.reads disk.old)) }
     ensures first { IsTrue D.disk.tells → IfErr result (IsFirstStop committed.now (D.disk.reads disk.old) change.now) }
     // On every disk.
-    ensures joins { IfOk result (λ added. MayJoin committed.now change.now.parts added.troves) }
+    ensures joins { IfOk result (λ added. MayBeAdded committed.now change.now.parts added.troves) }
 {
     let added = made_troves(alloc, committed, change.parts.get())?;
     if added.troves().is_empty() {

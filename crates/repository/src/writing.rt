@@ -9,8 +9,8 @@ ghost use Rattle.change_set.specs.ChangeSet.{content_cmp};
 ghost use Rattle.repo_load.specs.tree-disk.Tree.{is_byte};
 ghost use Rattle.repo_load.specs.Files.{commit_bytes, FitsTrove};
 ghost use Rattle.repo_load.specs.Steps.{commit_put};
-ghost use Rattle.repository.specs.Outcome.{IsAtRest};
-ghost use Rattle.repository.specs.Preparing.{file_mode, Writes};
+ghost use Rattle.repository.specs.Outcome.{MayCommit};
+ghost use Rattle.repository.specs.Preparing.{file_mode, WritesCommit};
 
 use crate::preparing::prepare;
 use change_set::Carried;
@@ -55,8 +55,8 @@ pub(crate) fn write<D: TreeDisk>(
     requires few { committed.now.commits < COMMITS_LIMIT }
     requires hash { All (λ (content : Carried). content.name ≡ sha1 content.bytes) contents.now }
     requires rising { IsStrictlySortedBy content_cmp contents.now }
-    requires rests { IsTrue D.disk.tells → IsAtRest D.disk committed.now disk.old }
-    ensures writes { Writes D.disk committed.now contents.now troves.now disk.old disk.new result }
+    requires rests { IsTrue D.disk.tells → MayCommit D.disk committed.now disk.old }
+    ensures writes { WritesCommit D.disk committed.now contents.now troves.now disk.old disk.new result }
     // On every disk.
     ensures troves { OnOk result (All IsTrove troves.now) }
 {

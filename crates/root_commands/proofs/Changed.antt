@@ -18,7 +18,7 @@ use Rattle.update_job.specs.declared.comparing.Change.{Change}
 use Rattle.update_job.specs.declared.comparing.Change.TheVariants.{Installed, Updated, Erased}
 use Rattle.update_job.specs.Changes.{name_of, AreChanges, IsChange, IsLost, IsReplaced, Noted, noted}
 use Rattle.update_job.proofs.Noting.{nameless_from, HasNames, rises_by, value_at, value_place}
-use Rattle.root_commands.specs.Noting.{id_of, turned}
+use Rattle.root_commands.specs.Noting.{id_by_name, turned}
 use Rattle.local_db.proofs.trove-stream.Names.{contained, is_named, is_there}
 use Rattle.local_db.proofs.cny-base.Lists.{contains_at, nothing_in, place_in, contains_cases}
 
@@ -26,11 +26,11 @@ use Rattle.local_db.proofs.cny-base.Lists.{contains_at, nothing_in, place_in, co
 
 -- ---- ids of the troves that differ
 
-none_with : (ids : List TroveId) (name : List ℕ) (id : TroveId) → id_of name ids ≡ None → Contains ids id → id.name ≡ name → ⊥
+none_with : (ids : List TroveId) (name : List ℕ) (id : TroveId) → id_by_name name ids ≡ None → Contains ids id → id.name ≡ name → ⊥
 none_with [] name id none among named = nothing_in id among
 none_with (x ∷ ids) name id none among named = at (bytes_eq x.name name) refl none (none_with ids name id)
   where
-    at : (b : Bool) → bytes_eq x.name name ≡ b → cond b (Some x) (id_of name ids) ≡ None → (id_of name ids ≡ None → Contains ids id → id.name ≡ name → ⊥) → ⊥
+    at : (b : Bool) → bytes_eq x.name name ≡ b → cond b (Some x) (id_by_name name ids) ≡ None → (id_by_name name ids ≡ None → Contains ids id → id.name ≡ name → ⊥) → ⊥
     at true here is rest = none-some x (sym is)
     at false off is rest = ⊎_elim
         (λ first. true≢false (sym ((bytes_eq-Decides x.name name).1 (ap (λ (i : TroveId). i.name) first ∙ named)) ∙ off))
@@ -45,7 +45,7 @@ record IsHere (list other : List TroveParts) (name : List ℕ) (id : TroveId) : 
   differs : trove_of name list ≢ trove_of name other
 
 module _ (list other : List TroveParts) (ids : List TroveId) (are : AreChangedIds list other ids) (name : List ℕ) where
-  here : (id : TroveId) → id_of name ids ≡ Some id → IsHere list other name id
+  here : (id : TroveId) → id_by_name name ids ≡ Some id → IsHere list other name id
   here id some =
       let found = found_is (λ (i : TroveId). i.name) ids name id some in
       let their = All-contains (λ (i : TroveId). (t : TroveParts) × (trove_of i.name list ≡ Some t) × (t.id ≡ i)) ids id are.theirs found.0 in
@@ -57,7 +57,7 @@ module _ (list other : List TroveParts) (ids : List TroveId) (are : AreChangedId
         differs = subst (λ (n : List ℕ). trove_of n list ≢ trove_of n other) found.1 changed.differs;
       }
 
-  none_here : id_of name ids ≡ None → trove_of name list ≢ trove_of name other → trove_of name list ≡ None
+  none_here : id_by_name name ids ≡ None → trove_of name list ≢ trove_of name other → trove_of name list ≡ None
   none_here none differs = at (trove_of name list) refl
     where
       at : (o : Option TroveParts) → trove_of name list ≡ o → trove_of name list ≡ None
@@ -67,19 +67,19 @@ module _ (list other : List TroveParts) (ids : List TroveId) (are : AreChangedId
           let changed = subst (λ (n : List ℕ). trove_of n list ≢ trove_of n other) (sym named) differs in
           absurd (none_with ids name t.id none (are.all t (is_there list name t is) (record { differs = changed })) named)
 
-  some_here : (t : TroveParts) → trove_of name list ≡ Some t → trove_of name list ≢ trove_of name other → id_of name ids ≡ Some t.id
-  some_here t there differs = at (id_of name ids) refl
+  some_here : (t : TroveParts) → trove_of name list ≡ Some t → trove_of name list ≢ trove_of name other → id_by_name name ids ≡ Some t.id
+  some_here t there differs = at (id_by_name name ids) refl
     where
-      at : (o : Option TroveId) → id_of name ids ≡ o → id_of name ids ≡ Some t.id
+      at : (o : Option TroveId) → id_by_name name ids ≡ o → id_by_name name ids ≡ Some t.id
       at None is = absurd (none-some t (sym (none_here is differs) ∙ there))
       at (Some id) is =
           let found = here id is in
           is ∙ ap (λ (i : TroveId). Some i) (sym found.is) ∙ ap (λ (u : TroveParts). Some u.id) (same_Some found.trove t (sym found.there ∙ there))
 
-  not_here : trove_of name list ≡ None → id_of name ids ≡ None
-  not_here none = at (id_of name ids) refl
+  not_here : trove_of name list ≡ None → id_by_name name ids ≡ None
+  not_here none = at (id_by_name name ids) refl
     where
-      at : (o : Option TroveId) → id_of name ids ≡ o → id_of name ids ≡ None
+      at : (o : Option TroveId) → id_by_name name ids ≡ o → id_by_name name ids ≡ None
       at None is = is
       at (Some id) is = let found = here id is in absurd (none-some found.trove (sym none ∙ found.there))
 
@@ -88,10 +88,10 @@ module _ (list other : List TroveParts) (ids : List TroveId) (are : AreChangedId
 abbrev Is : (before after : List TroveParts) (name : List ℕ) (c : Change) → Type 0
 Is before after name c = IsChange before after c × (name_of c ≡ name)
 
-module _ (m : Noted) (ordered : IsOrdered (slice_cmp nat_cmp) m) (was now : List TroveId) (noted_is : (name : List ℕ) → noted m name ≡ turned true (id_of name now) (turned false (id_of name was) None))
+module _ (m : Noted) (ordered : IsOrdered (slice_cmp nat_cmp) m) (was now : List TroveId) (noted_is : (name : List ℕ) → noted m name ≡ turned true (id_by_name name now) (turned false (id_by_name name was) None))
     (before after : List TroveParts) (rising : IsRising before) (after_rising : IsRising after) (were : AreChangedIds before after was) (are : AreChangedIds after before now) where
   module _ (name : List ℕ) (c : Change) where
-    lost : (w : TroveId) → id_of name was ≡ Some w → id_of name now ≡ None → Erased w ≡ c → Is before after name c
+    lost : (w : TroveId) → id_by_name name was ≡ Some w → id_by_name name now ≡ None → Erased w ≡ c → Is before after name c
     lost w first none is =
         let old = here before after was were name w first in
         let named = is_named before name old.trove old.there in
@@ -107,7 +107,7 @@ module _ (m : Noted) (ordered : IsOrdered (slice_cmp nat_cmp) m) (was now : List
           ap name_of (sym is) ∙ ap (λ (i : TroveId). i.name) (sym old.is) ∙ named,
         )
 
-    come : (n : TroveId) → id_of name was ≡ None → id_of name now ≡ Some n → Installed n ≡ c → Is before after name c
+    come : (n : TroveId) → id_by_name name was ≡ None → id_by_name name now ≡ Some n → Installed n ≡ c → Is before after name c
     come n none second is =
         let new = here after before now are name n second in
         let named = is_named after name new.trove new.there in
@@ -123,7 +123,7 @@ module _ (m : Noted) (ordered : IsOrdered (slice_cmp nat_cmp) m) (was now : List
           ap name_of (sym is) ∙ ap (λ (i : TroveId). i.name) (sym new.is) ∙ named,
         )
 
-    replaced : (w n : TroveId) → id_of name was ≡ Some w → id_of name now ≡ Some n → Updated n ≡ c → Is before after name c
+    replaced : (w n : TroveId) → id_by_name name was ≡ Some w → id_by_name name now ≡ Some n → Updated n ≡ c → Is before after name c
     replaced w n first second is =
         let old = here before after was were name w first in
         let new = here after before now are name n second in
@@ -145,16 +145,16 @@ module _ (m : Noted) (ordered : IsOrdered (slice_cmp nat_cmp) m) (was now : List
         )
 
     is_one : noted m name ≡ Some c → Is before after name c
-    is_one some = at (id_of name was) (id_of name now) refl refl (sym (noted_is name) ∙ some)
+    is_one some = at (id_by_name name was) (id_by_name name now) refl refl (sym (noted_is name) ∙ some)
       where
-        at : (a b : Option TroveId) → id_of name was ≡ a → id_of name now ≡ b → turned true b (turned false a None) ≡ Some c → Is before after name c
+        at : (a b : Option TroveId) → id_by_name name was ≡ a → id_by_name name now ≡ b → turned true b (turned false a None) ≡ Some c → Is before after name c
         at None None first second is = absurd (none-some c is)
         at (Some w) None first second is = lost w first second (same_Some (Erased w) c is)
         at None (Some n) first second is = come n first second (same_Some (Installed n) c is)
         at (Some w) (Some n) first second is = replaced w n first second (same_Some (Updated n) c is)
 
-  noted_as : (name : List ℕ) (a b : Option TroveId) → id_of name was ≡ a → id_of name now ≡ b → noted m name ≡ turned true b (turned false a None)
-  noted_as name a b first second = noted_is name ∙ ap (λ (o : Option TroveId). turned true (id_of name now) (turned false o None)) first ∙ ap (λ (o : Option TroveId). turned true o (turned false a None)) second
+  noted_as : (name : List ℕ) (a b : Option TroveId) → id_by_name name was ≡ a → id_by_name name now ≡ b → noted m name ≡ turned true b (turned false a None)
+  noted_as name a b first second = noted_is name ∙ ap (λ (o : Option TroveId). turned true (id_by_name name now) (turned false o None)) first ∙ ap (λ (o : Option TroveId). turned true o (turned false a None)) second
 
   nothing_of : (list : List TroveParts) (name : List ℕ) (t : TroveParts) (other : Option TroveParts) → other ≡ Some t → trove_of name list ≡ None → other ≢ trove_of name list
   nothing_of list name t other some none same = none-some t (sym none ∙ sym same ∙ some)

@@ -22,18 +22,18 @@ use Rattle.repo_load.specs.declared.repo_contents.RepoContents.{RepoContents}
 use Rattle.local_db.specs.declared.db.Db.{Db}
 use Rattle.local_db.specs.declared.format.Format.TheVariants.{Two}
 use Rattle.local_db.specs.Stores.{StoresIn}
-use Rattle.system_core.specs.Opening.{IsAtRest}
+use Rattle.system_core.specs.Opening.{IsSettledRoot}
 use Rattle.system_core.specs.declared.done.Done.{Done}
 use Rattle.system_core.specs.Job.{Sources, sources_of}
 use Rattle.system_core.specs.Lists.{ListStep, to_updated}
 use Rattle.system_core.specs.Steps as steps
-use Rattle.system_core.specs.Steps.{Ends}
+use Rattle.system_core.specs.Steps.{StepEnds}
 use Rattle.cny_report.specs.Jobs.{changes_text}
 use Rattle.cli_call.specs.cny-laws.declared.failure.Failure.{Failure}
 use Rattle.cli_call.specs.cny-laws.declared.failure.Failure.TheVariants as failure
 use Rattle.cli_call.specs.cny-laws.declared.opened.Opened.{Opened}
 use Rattle.cli_call.proofs.ChangingRoot.{ChangesRoot}
-use Rattle.cli_call.specs.Command.{disks, AreReady, HasCause, Performs, StandsFor, end_of}
+use Rattle.cli_call.specs.Command.{disks, AreReady, HasFailureCause, Performs, StandsFor, end_of}
 use Rattle.cli_call.specs.cny-laws.Report.{ChangesNothing, status_of}
 use Rattle.cli_call.proofs.CommandLaws.{goes_read}
 use Rattle.cli_call.specs.cny-laws.State.{Meaning, RootState, State}
@@ -60,10 +60,10 @@ pub record RepositoryLaws : Type 0 where
 -- a job of these troves ran: by each system that the root stores, and on each root
 pub record RanFar {T P : Type 0} (root_disk : DiskModel T) (repo_disk : DiskModel P) (options : Options) (carried : List Carried) (troves : List TroveParts) (root root' : T) (far far' : RepoContents P) (now : Db) (r : Result Done Stop) : Type 0 where
   pub ends : IsTrue root_disk.tells → (s : RootState) → StoresIn Two (root_disk.reads root) s
-      → Ends root_disk (sources_of carried (let contents = repo_contents repo_disk in contents.answers far) options) (to_updated s.installed troves) s root root' now r
-  pub rests : IsTrue root_disk.tells → OnOk r (IsAtRest root_disk root')
+      → StepEnds root_disk (sources_of carried (let contents = repo_contents repo_disk in contents.answers far) options) (to_updated s.installed troves) s root root' now r
+  pub rests : IsTrue root_disk.tells → OnOk r (IsSettledRoot root_disk root')
   pub refused : IsTrue root_disk.tells → IfErr r (ReadsAtRefusal root_disk root root')
-  pub causes : IfErr r (steps.HasCause (repo_contents repo_disk) far far' (Rose (root_disk.faults root) (root_disk.faults root')))
+  pub causes : IfErr r (steps.HasStepCause (repo_contents repo_disk) far far' (Rose (root_disk.faults root) (root_disk.faults root')))
   pub later : root_disk.faults root ≤ root_disk.faults root'
   pub searched : HasSearched repo_disk far far'
 
@@ -95,7 +95,7 @@ module _ {T P : Type 0} {root_disk : DiskModel T} {repo_disk : DiskModel P} (roo
     answered name found is = laws.content (repo_disk.reads repo) s.repository name found stands.repo.stored
         (subst (λ (t : List TroveParts). FindsContent t name (repo_disk.reads repo) found) same_troves (is.stands told))
 
-    ends : (r : Result Done Stop) → Runs r → Ends root_disk (sources_of carried (answers_of s.repository.contents) options) (to_updated s.root.installed troves) s.root root root' opened'.db r
+    ends : (r : Result Done Stop) → Runs r → StepEnds root_disk (sources_of carried (answers_of s.repository.contents) options) (to_updated s.root.installed troves) s.root root root' opened'.db r
     ends r ran = ends_more carried options (let contents = repo_contents repo_disk in contents.answers far) (answers_of s.repository.contents) answered s.root root_disk (to_updated s.root.installed troves) root root' opened'.db r (ran.ends root_told s.root (stored_two law (disks root repo opened) ready root_told stands.root))
 
     whole : (e : Stop) → Runs (Err e) → IsUndamaged e
@@ -139,7 +139,7 @@ module _ {T P : Type 0} {root_disk : DiskModel T} {repo_disk : DiskModel P} (roo
         }));
       }
 
-  pub caused : (e : Stop) → Runs (Err e) → HasCause root_disk repo_disk (disks root repo opened) (disks root' repo' opened') (Err (root_failure e))
+  pub caused : (e : Stop) → Runs (Err e) → HasFailureCause root_disk repo_disk (disks root repo opened) (disks root' repo' opened') (Err (root_failure e))
   caused (stop.Refused why) ran = tt
   caused stop.Failed ran = ran.causes
   caused stop.Memory ran = tt
@@ -164,7 +164,7 @@ module _ {T P : Type 0} {root_disk : DiskModel T} {repo_disk : DiskModel P} (roo
 
   -- ---- the clause
 
-  pub performed_by : (f : Result (List ℕ) Failure) → HasSearched repo_disk far far' → root_disk.faults root ≤ root_disk.faults root' → HasCause root_disk repo_disk (disks root repo opened) (disks root' repo' opened') f
+  pub performed_by : (f : Result (List ℕ) Failure) → HasSearched repo_disk far far' → root_disk.faults root ≤ root_disk.faults root' → HasFailureCause root_disk repo_disk (disks root repo opened) (disks root' repo' opened') f
       → (status_of (end_of f) ≤ 4 → IsTrue root_disk.tells → IsSettled root_disk root_store.base root')
       → (ChangesNothing (end_of f) → IsTrue root_disk.tells → root_disk.reads root' ≡ root_disk.reads root)
       → (IsTrue root_disk.tells → IsTrue repo_disk.tells → (s : State) → StandsFor root_disk repo_disk (disks root repo opened) s → ChangesRoot root_disk (UpdatesTo options carried troves s) s root root' f)

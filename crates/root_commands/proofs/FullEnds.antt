@@ -21,7 +21,7 @@ use Rattle.cny_report.specs.Verified.{verified_text}
 use Rattle.cli_call.specs.cny-laws.declared.failure.Failure.{Failure}
 use Rattle.cli_call.specs.cny-laws.declared.failure.Failure.TheVariants as failure
 use Rattle.cli_call.specs.cny-laws.declared.opened.Opened.{Opened}
-use Rattle.cli_call.specs.Command.{disks, AreReady, HasCause, Performs, StandsFor}
+use Rattle.cli_call.specs.Command.{disks, AreReady, HasFailureCause, Performs, StandsFor}
 use Rattle.cli_call.proofs.CommandLaws.{AnswersReading, AreRead, performs_reading}
 use Rattle.cli_call.proofs.RootLaws.{root_laws}
 use Rattle.cli_call.specs.cny-laws.State.{State}
@@ -55,7 +55,7 @@ module _ {T P : Type 0} {root_disk : DiskModel T} {repo_disk : DiskModel P} (roo
   Ends result = AnswersReading root_disk repo_disk (verify_fully names) input (disks root repo opened) result
 
   abbrev pub Caused : Result (List ℕ) Failure → Type 0
-  Caused result = HasCause root_disk repo_disk (disks root repo opened) (disks root' repo' opened) result
+  Caused result = HasFailureCause root_disk repo_disk (disks root repo opened) (disks root' repo' opened) result
 
   abbrev pub Performed : Result (List ℕ) Failure → Type 0
   Performed result = Performs root_disk repo_disk (verify_fully names) input (disks root repo opened) (disks root' repo' opened) result

@@ -22,7 +22,7 @@ use Rattle.cny_manifest.specs.declared.made.Made.{Made}
 use Rattle.cny_manifest.specs.FirstFault.{IsFaultOf}
 use Rattle.cny_manifest.specs.Makes.{HasOwnContents, Makes}
 use Rattle.system_core.specs.declared.done.Done.{Done}
-use Rattle.system_core.specs.Steps.{HasCause, HasOwnCause}
+use Rattle.system_core.specs.Steps.{HasStepCause, HasOwnCause}
 use Rattle.cli_call.specs.cny-laws.declared.opened.Opened.{Opened}
 use Rattle.cli_call.specs.Alone.{PerformsAlone}
 use Rattle.cli_call.proofs.AloneLaws.{AnswersAlone, fault_undamaged}
@@ -60,7 +60,7 @@ reserved_at (u ∷ front) t behind path allowed some =
 
 -- ---- no contents behind
 
-own_cause : (far far' : NoContents) (rose : Type 0) (e : Stop) → HasCause (empty_contents {C = NoContents}) far far' rose e → HasOwnCause rose e
+own_cause : (far far' : NoContents) (rose : Type 0) (e : Stop) → HasStepCause (empty_contents {C = NoContents}) far far' rose e → HasOwnCause rose e
 own_cause far far' rose stop.Failed h = h
 own_cause far far' rose stop.Memory h = tt
 own_cause far far' rose (stop.Refused why) h = tt
@@ -68,7 +68,7 @@ own_cause far far' rose (stop.Damaged path) h = h
 own_cause far far' rose stop.FarFailed h = none_rose h
 own_cause far far' rose (stop.FarDamaged path) h = h.damaged refl
 
-pub own_causes : (far far' : NoContents) (rose : Type 0) (r : Result Done Stop) → IfErr r (HasCause (empty_contents {C = NoContents}) far far' rose) → IfErr r (HasOwnCause rose)
+pub own_causes : (far far' : NoContents) (rose : Type 0) (r : Result Done Stop) → IfErr r (HasStepCause (empty_contents {C = NoContents}) far far' rose) → IfErr r (HasOwnCause rose)
 own_causes far far' rose (Ok made) h = tt
 own_causes far far' rose (Err e) h = own_cause far far' rose e h
 
@@ -83,7 +83,7 @@ module _ {T P : Type 0} {root_disk : DiskModel T} (repo_disk : DiskModel P) (roo
   answers_fault (fault.Refused why) refuses = λ told s rests. refuses why refl s
   answers_fault fault.Memory refuses = tt
 
-  fault_cause : (f : Fault) → command.HasCause root_disk repo_disk (disks root repo opened) (disks root repo opened) (Err (failure_of_fault f))
+  fault_cause : (f : Fault) → command.HasFailureCause root_disk repo_disk (disks root repo opened) (disks root repo opened) (Err (failure_of_fault f))
   fault_cause (fault.Refused why) = tt
   fault_cause fault.Memory = tt
 

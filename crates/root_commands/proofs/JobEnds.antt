@@ -24,7 +24,7 @@ use Rattle.cny_report.specs.declared.note.Note.{Note}
 use Rattle.cli_call.specs.cny-laws.declared.failure.Failure.{Failure}
 use Rattle.cli_call.specs.cny-laws.declared.opened.Opened.{Opened}
 use Rattle.cli_call.proofs.AloneLaws.{AnswersAlone}
-use Rattle.cli_call.specs.Command.{disks, AreReady, HasCause}
+use Rattle.cli_call.specs.Command.{disks, AreReady, HasFailureCause}
 use Rattle.cli_call.proofs.RootDatabase.{held_database}
 use Rattle.cli_call.specs.cny-laws.State.{RootState}
 use Rattle.cli_call.specs.cny-laws.Stops.{root_result}
@@ -32,7 +32,7 @@ use Rattle.cli_call.specs.cny-laws.Store.{HasDamagedFile, NamesDamaged}
 use Rattle.cli_call.specs.cny-laws.Stores.{root_store}
 use Rattle.cli_call.specs.Answer.{answer}
 use Rattle.root_commands.specs.Jobs.{AreNotesOf, list_jobs}
-use Rattle.root_commands.specs.Noting.{AreNoted, AreToldBy}
+use Rattle.root_commands.specs.Noting.{AreJobsNoted, AreToldBy}
 use Rattle.system_core.proofs.Migration.{AreFrom, OneRecord, from_newest, count_of}
 use Rattle.system_core.proofs.Held.{OneDatabase}
 use Rattle.local_db.proofs.cny-base.Lists.{length-map as mapped_length}
@@ -41,7 +41,7 @@ use Rattle.local_db.proofs.cny-base.Lists.{length-map as mapped_length}
 
 module _ (one : OneRecord) (x : Tree) where
   told_of : (stack : List StackItem) (n : ℕ) (after : List TroveParts) (jobs : List NotedJob) (notes : List Note) → HoldsStack Two x after stack → All IsStackItem stack → AreFrom n stack → IsRising after
-      → AreNotes x (length stack) n after jobs → AreNoted jobs notes → AreNotesOf after stack notes
+      → AreNotes x (length stack) n after jobs → AreJobsNoted jobs notes → AreNotesOf after stack notes
   told_of [] n after [] [] held items from rising are noted = tt
   told_of [] n after [] (note ∷ notes) held items from rising are noted = absurd noted
   told_of [] n after (job ∷ jobs) notes held items from rising are noted = absurd are
@@ -90,7 +90,7 @@ module _ (law : OneDatabase) (one : OneRecord) (x : Tree) (db : Db) (s : RootSta
       (subst (λ (n : ℕ). HoldsRecords Two x n s.installed damaged.good damaged.before) held.newest (subst (λ (l : List TroveParts). HoldsRecords Two x db.newest l damaged.good damaged.before) held.list damaged.holds))
       (subst (λ (n : ℕ). HoldsNoRecord Two x (n - length damaged.good) damaged.before) held.newest damaged.none)
 
-  pub notes_of : (jobs : List NotedJob) (notes : List Note) → AreNotes x (job_count db.oldest db.newest) db.newest db.installed jobs → AreNoted jobs notes → AreNotesOf s.installed s.stack notes
+  pub notes_of : (jobs : List NotedJob) (notes : List Note) → AreNotes x (job_count db.oldest db.newest) db.newest db.installed jobs → AreJobsNoted jobs notes → AreNotesOf s.installed s.stack notes
   notes_of jobs notes are noted =
       let held = held_database law x db s holds stored in
       told_of one x s.stack (newest s.stack) s.installed jobs notes held.stores.olds held.stores.system.olds (from_newest s.stack held.stores.system.numbered) held.stores.system.list.rising
@@ -112,7 +112,7 @@ module _ {T P : Type 0} (root_disk : DiskModel T) (repo_disk : DiskModel P) (law
   Ends result = AnswersAlone root_disk list_jobs input root result
 
   abbrev pub Caused : Result (List ℕ) Failure → Type 0
-  Caused result = HasCause root_disk repo_disk (disks root repo opened) (disks root' repo opened) result
+  Caused result = HasFailureCause root_disk repo_disk (disks root repo opened) (disks root' repo opened) result
 
   abbrev pub Named : Result (List ℕ) Failure → Type 0
   Named result = NamesDamaged root_store root_disk root' result

@@ -24,7 +24,7 @@ use Rattle.system_core.specs.Answers.{AnswersCall, AnswersDone, AnswersRefusal, 
 use Rattle.system_core.specs.Job as job
 use Rattle.system_core.specs.Job.{IsTestRefusal, IsTested, PassesTests, Sources, db_of}
 use Rattle.system_core.specs.JobWriting.{AnswersJob}
-use Rattle.system_core.specs.Last.{ChangesNothing, IsRefusedLast, PassesLast, db_after}
+use Rattle.system_core.specs.Last.{ChangesNeither, IsRefusedLast, PassesLast, db_after}
 use Rattle.system_core.specs.Lists.{ListStep}
 use Rattle.system_core.specs.Steps as steps
 use Rattle.system_core.specs.Steps.{HasOwnCause, IsRefusal}
@@ -132,7 +132,7 @@ module _ {T P : Type 0} {root_disk : DiskModel T} {repo_disk : DiskModel P} (roo
 
       by_number : (number : Option ℕ) → AnswersJob opened.db d.list d.puts opened'.db (Ok number) → AnswersOpened root_disk repo_disk (JobOutcome from (step s.root.installed) s.root) s (disks root' repo opened') (Ok text)
       by_number None answers =
-          let none : ChangesNothing (db_of s.root) d.list d.puts = subst (λ (b : Db). ChangesNothing b d.list d.puts) (sym has.database) answers.1 in
+          let none : ChangesNeither (db_of s.root) d.list d.puts = subst (λ (b : Db). ChangesNeither b d.list d.puts) (sym has.database) answers.1 in
           record {
             next = s;
             answers = record {

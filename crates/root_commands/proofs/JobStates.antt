@@ -17,17 +17,17 @@ use Rattle.update_job.specs.Changes.{AreChanges}
 use Rattle.local_db.specs.declared.format.Format.TheVariants.{Two}
 use Rattle.local_db.specs.Steps.{after_job, old_of}
 use Rattle.system_core.specs.RootWriting as writes
-use Rattle.system_core.specs.Last.{ChangesNothing, PassesLast}
+use Rattle.system_core.specs.Last.{ChangesNeither, PassesLast}
 use Rattle.system_core.specs.JobWriting as settling
 use Rattle.system_core.specs.declared.done.Done.{Done}
 use Rattle.system_core.specs.Job.{PassesTests, Sources, db_of}
 use Rattle.system_core.specs.Lists.{ListStep}
-use Rattle.system_core.specs.Steps.{Ends, EndsWith, IsDone, IsOnTheWay, changed, reading, unchanged, writing}
+use Rattle.system_core.specs.Steps.{StepEnds, StaysOrChanges, IsStepDone, StopsOnTheWay, changed, reading, unchanged, writing}
 use Rattle.cny_report.specs.Jobs.{changes_text}
 use Rattle.cli_call.specs.cny-laws.declared.failure.Failure.{Failure}
 use Rattle.cli_call.specs.cny-laws.declared.failure.Failure.TheVariants as failure
 use Rattle.cli_call.proofs.ChangingRoot.{ChangesRoot, of_either}
-use Rattle.cli_call.specs.Command.{Answers, end_of}
+use Rattle.cli_call.specs.Command.{AnswersAs, end_of}
 use Rattle.cli_call.proofs.CommandLaws.{goes_read, read_shown}
 use Rattle.cli_call.specs.cny-laws.Report.{status_of}
 use Rattle.cli_call.proofs.RootLaws.{root_laws}
@@ -50,7 +50,7 @@ module _ {T : Type 0} {root_disk : DiskModel T} (root_disk_laws : IsDisk root_di
   IsOutcome = JobOutcome from step s.root
 
   -- it was only read
-  still : (f : Result (List ℕ) Failure) → HasRead root_disk root root' (Unit {0}) → Answers IsOutcome s s f → ChangesRoot root_disk IsOutcome s root root' f
+  still : (f : Result (List ℕ) Failure) → HasRead root_disk root root' (Unit {0}) → AnswersAs IsOutcome s s f → ChangesRoot root_disk IsOutcome s root root' f
   still f read answers = record {
     next = s.root;
     answers = answers;
@@ -65,7 +65,7 @@ module _ {T : Type 0} {root_disk : DiskModel T} (root_disk_laws : IsDisk root_di
     abbrev same_effect : Effect
     same_effect = record { change = nothing; out = changes_text changes }
 
-    same_is : ChangesNothing (db_of s.root) list puts → IsOutcome (Ok same_effect)
+    same_is : ChangesNeither (db_of s.root) list puts → IsOutcome (Ok same_effect)
     same_is none = record { list = list; leads = leads; puts = puts; passes = passes; changes = changes; are = are; change = inl (none, refl); out = refl }
 
     module _ (passed : PassesLast (db_of s.root) list puts) where
@@ -78,8 +78,8 @@ module _ {T : Type 0} {root_disk : DiskModel T} (root_disk_laws : IsDisk root_di
       effect_is : IsOutcome (Ok effect)
       effect_is = record { list = list; leads = leads; puts = puts; passes = passes; changes = changes; are = are; change = inr (passed, refl); out = refl }
 
-      moved : (w : Result (Unit {0}) Stop) (f : Result (List ℕ) Failure) → writes.Goes root_disk Two s.root then puts root root' w → (status_of (end_of f) ≤ 4 → RestsAt root_store root_disk root' then)
-          → Answers IsOutcome s (record { root = then; repository = s.repository }) f → ChangesRoot root_disk IsOutcome s root root' f
+      moved : (w : Result (Unit {0}) Stop) (f : Result (List ℕ) Failure) → writes.TakesRoot root_disk Two s.root then puts root root' w → (status_of (end_of f) ≤ 4 → RestsAt root_store root_disk root' then)
+          → AnswersAs IsOutcome s (record { root = then; repository = s.repository }) f → ChangesRoot root_disk IsOutcome s root root' f
       moved w f goes rests_then answers = record {
         next = then;
         answers = answers;
@@ -95,20 +95,20 @@ module _ {T : Type 0} {root_disk : DiskModel T} (root_disk_laws : IsDisk root_di
       }
 
       -- on the way from the one to the other
-      cut : (e : Stop) (f : Failure) → (status_of (Err f) ≤ 4 → ⊥) → writes.Goes root_disk Two s.root then puts root root' (Err e)
-          → ((next : State) → (next ≡ s) ⊎ Takes IsOutcome s next (λ bytes. Unit {0}) → Answers IsOutcome s next (Err f)) → ChangesRoot root_disk IsOutcome s root root' (Err f)
+      cut : (e : Stop) (f : Failure) → (status_of (Err f) ≤ 4 → ⊥) → writes.TakesRoot root_disk Two s.root then puts root root' (Err e)
+          → ((next : State) → (next ≡ s) ⊎ Takes IsOutcome s next (λ bytes. Unit {0}) → AnswersAs IsOutcome s next (Err f)) → ChangesRoot root_disk IsOutcome s root root' (Err f)
       cut e f high goes answers = moved (Err e) (Err f) goes (λ le. absurd (high le))
           (answers (record { root = then; repository = s.repository }) (inr (record { effect = effect; is = effect_is; leads = refl; bytes = tt })))
 
-      stands : writes.Goes root_disk Two s.root then puts root root' settling.done → RestsAt root_store root_disk root' then
+      stands : writes.TakesRoot root_disk Two s.root then puts root root' settling.done → RestsAt root_store root_disk root' then
       stands goes = settled_rests root_laws root' then (record { flag_clear = goes.rests.flag_clear; synced = goes.rests.synced }) (inr goes.rests.stores)
 
-  on_the_way : (e : Stop) (f : Failure) → (status_of (Err f) ≤ 4 → ⊥) → ((next : State) → (next ≡ s) ⊎ Takes IsOutcome s next (λ bytes. Unit {0}) → Answers IsOutcome s next (Err f))
-      → IsOnTheWay root_disk from step s.root root root' e → ChangesRoot root_disk IsOutcome s root root' (Err f)
+  on_the_way : (e : Stop) (f : Failure) → (status_of (Err f) ≤ 4 → ⊥) → ((next : State) → (next ≡ s) ⊎ Takes IsOutcome s next (λ bytes. Unit {0}) → AnswersAs IsOutcome s next (Err f))
+      → StopsOnTheWay root_disk from step s.root root root' e → ChangesRoot root_disk IsOutcome s root root' (Err f)
   on_the_way e f high answers (reading read) = still (Err f) read (answers s (inl refl))
   on_the_way e f high answers (writing list leads puts passes passed changes are goes) = cut list leads puts passes changes are passed e f high goes answers
 
-  pub stopped : (e : Stop) → Ends root_disk from step s.root root root' now (Err e) → IsUndamaged e → ChangesRoot root_disk IsOutcome s root root' (Err (root_failure e))
+  pub stopped : (e : Stop) → StepEnds root_disk from step s.root root root' now (Err e) → IsUndamaged e → ChangesRoot root_disk IsOutcome s root root' (Err (root_failure e))
   stopped (stop.Refused why) ends whole = still (Err (failure.Refused why)) (record { answer = tt; same = ends.same; time = ends.time }) (ends.answer, refl)
   stopped stop.Failed ends whole = on_the_way stop.Failed failure.RootFault (λ le. omega (arith, le)) (λ next is. is) ends
   stopped stop.Memory ends whole = on_the_way stop.Memory failure.Memory (λ le. omega (arith, le)) (λ next is. is) ends
@@ -118,7 +118,7 @@ module _ {T : Type 0} {root_disk : DiskModel T} (root_disk_laws : IsDisk root_di
 
   -- it is done, and this was told
   told_by : (list : List TroveParts) → step.leads list → (puts : List Put) → PassesTests from s.root list puts → (changes : List Change) → AreChanges s.root.installed list changes → (number : Option ℕ) (text : List ℕ) → text ≡ changes_text changes
-      → EndsWith root_disk s.root list puts root root' now number → ChangesRoot root_disk IsOutcome s root root' (Ok text)
+      → StaysOrChanges root_disk s.root list puts root root' now number → ChangesRoot root_disk IsOutcome s root root' (Ok text)
   told_by list leads puts passes changes are number text is (unchanged none read db n) =
       still (Ok text) read (record { effect = same_effect list leads puts passes changes are; is = same_is list leads puts passes changes are none; leads = refl; bytes = sym is })
   told_by list leads puts passes changes are number text is (changed passed goes db n) =
@@ -127,14 +127,14 @@ module _ {T : Type 0} {root_disk : DiskModel T} (root_disk_laws : IsDisk root_di
 
   -- no memory was left to tell it
   untold_by : (list : List TroveParts) → step.leads list → (puts : List Put) → PassesTests from s.root list puts → (changes : List Change) → AreChanges s.root.installed list changes → (number : Option ℕ)
-      → EndsWith root_disk s.root list puts root root' now number → ChangesRoot root_disk IsOutcome s root root' (Err failure.Memory)
+      → StaysOrChanges root_disk s.root list puts root root' now number → ChangesRoot root_disk IsOutcome s root root' (Err failure.Memory)
   untold_by list leads puts passes changes are number (unchanged none read db n) = still (Err failure.Memory) read (inl refl)
   untold_by list leads puts passes changes are number (changed passed goes db n) =
       moved list leads puts passes changes are passed settling.done (Err failure.Memory) goes (λ le. absurd (omega (arith, le)))
       (inr (record { effect = effect list leads puts passes changes are passed; is = effect_is list leads puts passes changes are passed; leads = refl; bytes = tt }))
 
-  pub told_text : (made : Done) (text : List ℕ) → text ≡ changes_text made.changes → IsDone root_disk from step s.root root root' now made → ChangesRoot root_disk IsOutcome s root root' (Ok text)
+  pub told_text : (made : Done) (text : List ℕ) → text ≡ changes_text made.changes → IsStepDone root_disk from step s.root root root' now made → ChangesRoot root_disk IsOutcome s root root' (Ok text)
   told_text made text is d = told_by d.list d.leads d.puts d.passes made.changes d.changes made.number text is d.ends
 
-  pub untold_text : (made : Done) → IsDone root_disk from step s.root root root' now made → ChangesRoot root_disk IsOutcome s root root' (Err failure.Memory)
+  pub untold_text : (made : Done) → IsStepDone root_disk from step s.root root root' now made → ChangesRoot root_disk IsOutcome s root root' (Err failure.Memory)
   untold_text made d = untold_by d.list d.leads d.puts d.passes made.changes d.changes made.number d.ends

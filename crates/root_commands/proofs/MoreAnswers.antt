@@ -24,7 +24,7 @@ use Rattle.local_db.specs.SystemState.{SystemState}
 use Rattle.system_core.specs.declared.done.Done.{Done}
 use Rattle.system_core.specs.Job.{IsJobRefusal, IsTestRefusal, IsTested, PassesTests, last, sources_of, unmet, unplanned, untargeted, untested}
 use Rattle.system_core.specs.Lists.{ListStep}
-use Rattle.system_core.specs.Steps.{Ends, IsDone, IsOnTheWay, IsRefusal, no_job, no_list, reading, writing}
+use Rattle.system_core.specs.Steps.{StepEnds, IsStepDone, StopsOnTheWay, IsRefusal, no_job, no_list, reading, writing}
 use Rattle.update_job.specs.cny-base.Sized.{of_size}
 
 module _ (carried : List Carried) (options : Options) (one two : Answers) (more : (name : List ℕ) (found : Option (List ℕ)) → one name found → two name found) where
@@ -102,14 +102,14 @@ module _ (carried : List Carried) (options : Options) (one two : Answers) (more 
       refusal_more why (no_job list leads is) = no_job list leads (job_refusal list why is)
 
       module _ (old new : D) (now : Db) where
-        on_the_way : (e : Stop) → IsOnTheWay disk (sources_of carried one options) step s old new e → IsOnTheWay disk (sources_of carried two options) step s old new e
+        on_the_way : (e : Stop) → StopsOnTheWay disk (sources_of carried one options) step s old new e → StopsOnTheWay disk (sources_of carried two options) step s old new e
         on_the_way e (reading read) = reading read
         on_the_way e (writing list leads puts passes passed changes are goes) = writing list leads puts (passes_more list puts passes) passed changes are goes
 
-        pub done_more : (made : Done) → IsDone disk (sources_of carried one options) step s old new now made → IsDone disk (sources_of carried two options) step s old new now made
+        pub done_more : (made : Done) → IsStepDone disk (sources_of carried one options) step s old new now made → IsStepDone disk (sources_of carried two options) step s old new now made
         done_more made is = record { list = is.list; leads = is.leads; puts = is.puts; passes = passes_more is.list is.puts is.passes; ends = is.ends; changes = is.changes }
 
-        pub ends_more : (r : Result Done Stop) → Ends disk (sources_of carried one options) step s old new now r → Ends disk (sources_of carried two options) step s old new now r
+        pub ends_more : (r : Result Done Stop) → StepEnds disk (sources_of carried one options) step s old new now r → StepEnds disk (sources_of carried two options) step s old new now r
         ends_more (Ok made) is = done_more made is
         ends_more (Err (Refused why)) is = record { answer = refusal_more why is.answer; same = is.same; time = is.time }
         ends_more (Err Failed) is = on_the_way Failed is

@@ -15,7 +15,7 @@ use Rattle.local_db.specs.SystemState.{AreNumbered, StackItem, SystemState, is_l
 use Rattle.local_db.specs.Steps.{after_rollback, after_rollbacks}
 use Rattle.local_db.specs.Stores.{StoresIn}
 use Rattle.rollback_stack.specs.Inverse.{IsDamagedJob, IsFirstDamagedContent}
-use Rattle.system_core.specs.Rollback.{HasCause}
+use Rattle.system_core.specs.Rollback.{HasRollbackCause}
 use Rattle.system_core.specs.Several.{AreTakenBack, CanTakeBackTo, EndsTo, HasTakenBackTo, IsRefusalKindTo, IsRefusalTo, RollsBackTo, StopsTo, jobs_below, jobs_to, paths_of_jobs, rolled_back_to}
 use Rattle.cny_report.specs.Jobs.{rolled_back_text}
 use Rattle.cli_call.specs.cny-laws.declared.failure.Failure.{Failure}
@@ -55,7 +55,7 @@ few_jobs (o ∷ olds) numbered =
 
 -- ---- causes
 
-cause_back : (IsKind : Refusal → Type 0) (rose : Type 0) (e : Stop) → HasCause IsKind rose e → CausesBack rose e
+cause_back : (IsKind : Refusal → Type 0) (rose : Type 0) (e : Stop) → HasRollbackCause IsKind rose e → CausesBack rose e
 cause_back IsKind rose stop.Failed h = h
 cause_back IsKind rose stop.Memory h = tt
 cause_back IsKind rose (stop.Refused why) h = tt
@@ -63,7 +63,7 @@ cause_back IsKind rose (stop.Damaged path) h = tt
 cause_back IsKind rose stop.FarFailed h = h
 cause_back IsKind rose (stop.FarDamaged path) h = h
 
-pub causes_all : (IsKind : Refusal → Type 0) (rose : Type 0) (r : Result ℕ Stop) → IfErr r (HasCause IsKind rose) → IfErr r (CausesBack rose)
+pub causes_all : (IsKind : Refusal → Type 0) (rose : Type 0) (r : Result ℕ Stop) → IfErr r (HasRollbackCause IsKind rose) → IfErr r (CausesBack rose)
 causes_all IsKind rose (Ok n) h = tt
 causes_all IsKind rose (Err e) h = cause_back IsKind rose e h
 
@@ -151,7 +151,7 @@ module _ {T : Type 0} (root_disk : DiskModel T) (root root' : T) (opened opened'
   pub taken : (r : Result ℕ Stop) → ((s : RootState) → IsTrue root_disk.tells → StoresIn Two (root_disk.reads root) s → last ≡ number_of s)
       → (IsTrue root_disk.tells → (s : SystemState) → StoresIn Two (root_disk.reads root) s → RollsBackTo root_disk s last opened'.db root root' r)
       → (IsTrue root_disk.tells → IfOk r (HasTakenBackTo root_disk opened.db opened'.db last root root')) → (IsTrue root_disk.tells → IfErr r (StopsTo root_disk opened.db last root root'))
-      → IfErr r (HasCause (IsRefusalKindTo opened.db last) (Rose (root_disk.faults root) (root_disk.faults root'))) → root_disk.faults root ≤ root_disk.faults root'
+      → IfErr r (HasRollbackCause (IsRefusalKindTo opened.db last) (Rose (root_disk.faults root) (root_disk.faults root'))) → root_disk.faults root ≤ root_disk.faults root'
       → TakenBack root_disk root root' CanTake back_of paths_of Refuses Tells IsDamage r
   taken r same rolls done stops causes later = record {
     taken = λ told s stores.
@@ -184,7 +184,7 @@ module _ {T P : Type 0} {root_disk : DiskModel T} (root_disk_laws : IsDisk root_
     (number : Option ℕ) (last : ℕ) (last_is : last ≡ last_job number opened.db) (r : Result ℕ Stop)
     (rolls : IsTrue root_disk.tells → (s : SystemState) → StoresIn Two (root_disk.reads root) s → RollsBackTo root_disk s last opened'.db root root' r)
     (done : IsTrue root_disk.tells → IfOk r (HasTakenBackTo root_disk opened.db opened'.db last root root')) (stops : IsTrue root_disk.tells → IfErr r (StopsTo root_disk opened.db last root root'))
-    (causes : IfErr r (HasCause (IsRefusalKindTo opened.db last) (Rose (root_disk.faults root) (root_disk.faults root')))) (later : root_disk.faults root ≤ root_disk.faults root') (input : List ℕ) where
+    (causes : IfErr r (HasRollbackCause (IsRefusalKindTo opened.db last) (Rose (root_disk.faults root) (root_disk.faults root')))) (later : root_disk.faults root ≤ root_disk.faults root') (input : List ℕ) where
   abbrev pub number_in : RootState → ℕ
   number_in s = meant_number number s
 

@@ -18,7 +18,7 @@ use Rattle.repo_load.specs.State.{troves_of, AreFollowing, Commit}
 use Rattle.repo_load.specs.Loading.{IsCatalogue}
 use Rattle.cli_call.specs.Command.{Disks, AreReady, StandsFor}
 use Rattle.cli_call.specs.cny-laws.State.{tree_of, Effect, State}
-use Rattle.system_core.specs.Lists.{AreAllowed}
+use Rattle.system_core.specs.Lists.{AllPathsAllowed}
 use Rattle.trove_spec.specs.declared.given.GivenSpec.{GivenSpec}
 use Rattle.trove_spec.specs.AndThen.{AndThen, EndsAs}
 use Rattle.trove_spec.specs.Meant.{Means}
@@ -99,7 +99,7 @@ committed_allowed before (troves ∷ commits) following t among = ⊎_elim
     (λ (later : Contains (troves_of commits) t). committed_allowed (before ++ troves) commits following.1 t later)
     (Contains-append_cases troves (troves_of commits) t among)
 
-pub reached_allowed : (catalogue : CatalogueParts) → IsCatalogue catalogue → (ids : List TroveId) (found : List TroveParts) → IsExpansion catalogue.troves ids found → AreAllowed found
+pub reached_allowed : (catalogue : CatalogueParts) → IsCatalogue catalogue → (ids : List TroveId) (found : List TroveParts) → IsExpansion catalogue.troves ids found → AllPathsAllowed found
 reached_allowed catalogue rules ids found is = All-weaker (Contains found) IsAllowed
     (λ (t : TroveParts) (among : Contains found t). committed_allowed [] rules.commits rules.rules.following t
     (subst (λ (c : CatalogueParts). Contains c.troves t) rules.is (is.there t among)))

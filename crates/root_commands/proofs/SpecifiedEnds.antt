@@ -9,19 +9,19 @@ use Rattle.cli_call.specs.tree-disk.Disk.{DiskModel, IsDisk, HasRead}
 use Rattle.local_db.specs.declared.db.Db.{Db}
 use Rattle.local_db.specs.declared.format.Format.TheVariants.{Two}
 use Rattle.local_db.specs.Stores.{StoresIn}
-use Rattle.system_core.specs.Opening.{IsAtRest}
+use Rattle.system_core.specs.Opening.{IsSettledRoot}
 use Rattle.system_core.specs.declared.done.Done.{Done}
 use Rattle.system_core.specs.Answers.{AnswersCall, AnswersRefusal, collided, no_list, untested, last}
 use Rattle.system_core.specs.Job.{Sources}
 use Rattle.system_core.specs.Lists.{ListStep}
-use Rattle.system_core.specs.Steps.{Ends, HasOwnCause}
+use Rattle.system_core.specs.Steps.{StepEnds, HasOwnCause}
 use Rattle.cny_report.specs.Jobs.{changes_text}
 use Rattle.cli_call.specs.cny-laws.declared.failure.Failure.{Failure}
 use Rattle.cli_call.specs.cny-laws.declared.failure.Failure.TheVariants as failure
 use Rattle.cli_call.specs.cny-laws.declared.opened.Opened.{Opened}
 use Rattle.cli_call.specs.Alone.{PerformsAlone}
 use Rattle.cli_call.proofs.ChangingRoot.{ChangesRoot, alone_on_root, performs_on_root}
-use Rattle.cli_call.specs.Command.{disks, AreReady, HasCause, Performs, end_of}
+use Rattle.cli_call.specs.Command.{disks, AreReady, HasFailureCause, Performs, end_of}
 use Rattle.cli_call.specs.cny-laws.Report.{ChangesNothing as KeepsAll, status_of}
 use Rattle.cli_call.specs.cny-laws.State.{Effect, Meaning, RootState, State}
 use Rattle.cli_call.specs.cny-laws.Stops.{root_failure, root_result}
@@ -64,8 +64,8 @@ own_undamaged rose _ cause = tt
 
 -- a job ran: by each system that the root stores, and on each root
 pub record Ran {T : Type 0} (root_disk : DiskModel T) (from : Sources) (step : RootState → ListStep) (root root' : T) (now : Db) (r : Result Done Stop) : Type 0 where
-  pub ends : IsTrue root_disk.tells → (s : RootState) → StoresIn Two (root_disk.reads root) s → Ends root_disk from (step s) s root root' now r
-  pub rests : IsTrue root_disk.tells → OnOk r (IsAtRest root_disk root')
+  pub ends : IsTrue root_disk.tells → (s : RootState) → StoresIn Two (root_disk.reads root) s → StepEnds root_disk from (step s) s root root' now r
+  pub rests : IsTrue root_disk.tells → OnOk r (IsSettledRoot root_disk root')
   pub refused : IsTrue root_disk.tells → IfErr r (ReadsAtRefusal root_disk root root')
   pub causes : IfErr r (HasOwnCause (Rose (root_disk.faults root) (root_disk.faults root')))
   pub later : root_disk.faults root ≤ root_disk.faults root'
@@ -92,7 +92,7 @@ module _ {T P : Type 0} {root_disk : DiskModel T} (root_disk_laws : IsDisk root_
 
   -- ---- on each root
 
-  caused : (e : Stop) → Runs (Err e) → HasCause root_disk repo_disk (disks root repo opened) (disks root' repo opened') (Err (root_failure e))
+  caused : (e : Stop) → Runs (Err e) → HasFailureCause root_disk repo_disk (disks root repo opened) (disks root' repo opened') (Err (root_failure e))
   caused (stop.Refused why) ran = tt
   caused stop.Failed ran = ran.causes
   caused stop.Memory ran = tt
@@ -156,7 +156,7 @@ module _ {T P : Type 0} {root_disk : DiskModel T} (root_disk_laws : IsDisk root_
     told_alone r made text is ran text_is = alone_by (Ok text) (λ path named. absurd (cc named)) (λ told s rests. told_text told s rests made text text_is (subst Runs (root_ok r made is) ran))
 
     module _ (repo_disk_laws : IsDisk repo_disk) (repo_laws : IsStore repository_store) where
-      performed_by : (f : Result (List ℕ) Failure) → Changes f → root_disk.faults root ≤ root_disk.faults root' → HasCause root_disk repo_disk (disks root repo opened) (disks root' repo opened') f
+      performed_by : (f : Result (List ℕ) Failure) → Changes f → root_disk.faults root ≤ root_disk.faults root' → HasFailureCause root_disk repo_disk (disks root repo opened) (disks root' repo opened') f
           → (status_of (end_of f) ≤ 4 → IsTrue root_disk.tells → IsSettled root_disk root_store.base root')
           → (KeepsAll (end_of f) → IsTrue root_disk.tells → root_disk.reads root' ≡ root_disk.reads root) → Performed f
       performed_by f changes later cause rest keep = performs_on_root repo_disk means input (disks root repo opened) (disks root' repo opened') f refl changes repo_disk_laws repo_laws ready later cause rest keep

@@ -14,13 +14,13 @@ use Rattle.local_db.specs.declared.db.Db.{Db}
 use Rattle.local_db.specs.declared.format.Format.TheVariants.{Two}
 use Rattle.local_db.specs.SystemState.{is_listed}
 use Rattle.local_db.specs.Stores.{HoldsDatabase, StoresIn}
-use Rattle.system_core.specs.Rollback.{HasOnlyRead, Moves}
+use Rattle.system_core.specs.Rollback.{HasOnlyRead, MovesSystem}
 use Rattle.cli_call.specs.cny-laws.declared.failure.Failure.{Failure}
 use Rattle.cli_call.specs.cny-laws.declared.failure.Failure.TheVariants as failure
 use Rattle.cli_call.specs.cny-laws.declared.opened.Opened.{Opened}
 use Rattle.cli_call.specs.Alone.{PerformsAlone}
 use Rattle.cli_call.proofs.ChangingRoot.{ChangesRoot, alone_on_root, of_either, performs_on_root}
-use Rattle.cli_call.specs.Command.{disks, Answers, AreReady, HasCause, Performs, end_of}
+use Rattle.cli_call.specs.Command.{disks, AnswersAs, AreReady, HasFailureCause, Performs, end_of}
 use Rattle.cli_call.specs.cny-laws.Report.{ChangesNothing, status_of}
 use Rattle.cli_call.specs.cny-laws.Shown.{LeavesName}
 use Rattle.cli_call.proofs.CommandLaws.{goes_read, read_shown}
@@ -66,7 +66,7 @@ module _ {T : Type 0} (root_disk : DiskModel T) (root root' : T) (Can : RootStat
   pub record Taken (s : RootState) (r : Result ℕ Stop) : Type 0 where
     pub ends : EndsBack (Tells s) (Refuses s) r
     pub only : HasOnlyRead root_disk root root' ⊎ Can s
-    pub moves : Moves root_disk s (back s) (paths s) root root' r
+    pub moves : MovesSystem root_disk s (back s) (paths s) root root' r
 
   -- and on each root
   pub record TakenBack (r : Result ℕ Stop) : Type 0 where
@@ -99,7 +99,7 @@ module _ {T P : Type 0} {root_disk : DiskModel T} (root_disk_laws : IsDisk root_
 
     module _ (told : IsTrue root_disk.tells) (s : State) (rests : RestsAt root_store root_disk root s.root) where
       -- it was only read
-      still : (f : Result (List ℕ) Failure) → HasRead root_disk root root' (Unit {0}) → Answers (IsOutcome s.root) s s f → ChangesRoot root_disk (IsOutcome s.root) s root root' f
+      still : (f : Result (List ℕ) Failure) → HasRead root_disk root root' (Unit {0}) → AnswersAs (IsOutcome s.root) s s f → ChangesRoot root_disk (IsOutcome s.root) s root root' f
       still f read answers = record {
         next = s.root;
         answers = answers;
@@ -110,7 +110,7 @@ module _ {T P : Type 0} {root_disk : DiskModel T} (root_disk_laws : IsDisk root_
 
       -- it went from the one system to the other
       moved : (r : Result ℕ Stop) (f : Result (List ℕ) Failure) → Was s.root r → Can s.root → (status_of (end_of f) ≤ 4 → RestsAt root_store root_disk root' (back s.root))
-          → Answers (IsOutcome s.root) s (record { root = back s.root; repository = s.repository }) f → ChangesRoot root_disk (IsOutcome s.root) s root root' f
+          → AnswersAs (IsOutcome s.root) s (record { root = back s.root; repository = s.repository }) f → ChangesRoot root_disk (IsOutcome s.root) s root root' f
       moved r f taken can rests_then answers = record {
         next = back s.root;
         answers = answers;
@@ -125,7 +125,7 @@ module _ {T P : Type 0} {root_disk : DiskModel T} (root_disk_laws : IsDisk root_
 
       -- a fault, or want of memory
       on_the_way : (r : Result ℕ Stop) (e : Failure) → (status_of (Err e) ≤ 4 → ⊥) → Was s.root r
-          → ((next : State) → (next ≡ s) ⊎ Takes (IsOutcome s.root) s next (λ bytes. Unit {0}) → Answers (IsOutcome s.root) s next (Err e)) → ChangesRoot root_disk (IsOutcome s.root) s root root' (Err e)
+          → ((next : State) → (next ≡ s) ⊎ Takes (IsOutcome s.root) s next (λ bytes. Unit {0}) → AnswersAs (IsOutcome s.root) s next (Err e)) → ChangesRoot root_disk (IsOutcome s.root) s root root' (Err e)
       on_the_way r e high taken answers = ⊎_elim
           (λ read. still (Err e) read (answers s (inl refl)))
           (λ can. moved r (Err e) taken can (λ le. absurd (high le))
@@ -158,7 +158,7 @@ module _ {T P : Type 0} {root_disk : DiskModel T} (root_disk_laws : IsDisk root_
     -- ---- on each root
 
     abbrev Caused : Result (List ℕ) Failure → Type 0
-    Caused f = HasCause root_disk repo_disk (disks root repo opened) (disks root' repo opened') f
+    Caused f = HasFailureCause root_disk repo_disk (disks root repo opened) (disks root' repo opened') f
 
     no_system : (path : Name) → Took (Err (stop.Damaged path)) → IsTrue root_disk.tells → StoresNone (root_disk.reads root)
     no_system path done told s stored =

@@ -15,7 +15,7 @@ use Rattle.cny_report.specs.Verified.{verified_text}
 use Rattle.cli_call.specs.cny-laws.declared.failure.Failure.{Failure}
 use Rattle.cli_call.specs.cny-laws.declared.opened.Opened.{Opened}
 use Rattle.cli_call.proofs.AloneLaws.{AnswersWhere}
-use Rattle.cli_call.specs.Command.{disks, AreReady, Disks, HasCause}
+use Rattle.cli_call.specs.Command.{disks, AreReady, Disks, HasFailureCause}
 use Rattle.cli_call.specs.cny-laws.State.{State, tree_of}
 use Rattle.cli_call.specs.cny-laws.Stops.{root_result}
 use Rattle.cli_call.specs.cny-laws.Store.{NamesDamaged, RestsAt}
@@ -49,7 +49,7 @@ module _ {T P : Type 0} (root_disk : DiskModel T) (repo_disk : DiskModel P) (law
   Ends result = AnswersWhere root_disk.tells (IsSeen root_disk root opened) (verify_installed names) input result
 
   abbrev pub Caused : Result (List ℕ) Failure → Type 0
-  Caused result = HasCause root_disk repo_disk (disks root repo opened) (disks root' repo opened) result
+  Caused result = HasFailureCause root_disk repo_disk (disks root repo opened) (disks root' repo opened) result
 
   abbrev pub Named : Result (List ℕ) Failure → Type 0
   Named result = NamesDamaged root_store root_disk root' result

@@ -6,7 +6,7 @@ use Rattle.cli_call.specs.trove-stream.declared.parts.TroveParts.{TroveParts}
 use Rattle.update_job.specs.declared.comparing.Change.{Change}
 use Rattle.update_job.specs.Changes.{AreChanges}
 use Rattle.local_db.specs.Steps.{after_job}
-use Rattle.system_core.specs.Last.{ChangesNothing, PassesLast}
+use Rattle.system_core.specs.Last.{ChangesNeither, PassesLast}
 use Rattle.system_core.specs.Job.{PassesTests, Sources, db_of}
 use Rattle.system_core.specs.Lists.{ListStep}
 use Rattle.system_core.specs.Steps.{IsRefusal}
@@ -15,7 +15,7 @@ use Rattle.cli_call.specs.cny-laws.State.{nothing, on_root, Change as Step, Effe
 
 -- Neither the tree nor the list changes; or the root has the system after the job.
 abbrev pub IsChangeBy : RootState → List TroveParts → List Put → Step → Type 0
-IsChangeBy s list puts step = (ChangesNothing (db_of s) list puts × (step ≡ nothing)) ⊎ (PassesLast (db_of s) list puts × (step ≡ on_root (after_job puts list s)))
+IsChangeBy s list puts step = (ChangesNeither (db_of s) list puts × (step ≡ nothing)) ⊎ (PassesLast (db_of s) list puts × (step ≡ on_root (after_job puts list s)))
 
 -- A list follows, the tests of the job pass, the root changes so, and the changes of the list are told.
 pub record IsJobEffect (from : Sources) (step : ListStep) (s : RootState) (e : Effect) : Type 0 where

@@ -4,7 +4,7 @@ ghost use Rattle.cli_call.specs.trove-stream.Trove.{IsTrove};
 ghost use Rattle.cny_manifest.specs.Makes.{HasOwnContents};
 ghost use Rattle.cli_call.specs.Alone.{AnswersByOpened, PerformsAlone};
 ghost use Rattle.cli_call.specs.Command.{disks, AreReady, Performs};
-ghost use Rattle.system_core.specs.Lists.{AreAllowed};
+ghost use Rattle.system_core.specs.Lists.{AllPathsAllowed};
 ghost use Rattle.root_commands.specs.Install as spec;
 
 use cli_call::cny_base::{Options, Text};
@@ -27,7 +27,7 @@ fn install_made<T: TreeDisk, P: TreeDisk>(
     repo: &P,
     root: &mut T,
 ) -> Result<Text, Failure>
-    requires allowed { AreAllowed made.now.troves }
+    requires allowed { AllPathsAllowed made.now.troves }
     requires own { HasOwnContents made.now }
     requires ready { AreReady T.disk P.disk (disks root.old repo.now opened.old) }
     ensures performs { (input : List ℕ) → Performs T.disk P.disk (spec.install_made options.now made.now) input (disks root.old repo.now opened.old)

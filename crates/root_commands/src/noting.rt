@@ -5,7 +5,7 @@ ghost use Rattle.std.specs.Cmp.Lexicographic.{slice_cmp};
 ghost use Rattle.std.specs.Option.{option_copied};
 ghost use Rattle.std.specs.Ordering.{nat_cmp};
 ghost use Rattle.update_job.specs.Changes.{noted};
-ghost use Rattle.root_commands.specs.Noting.{change_of, id_if, turned, HasTurned, LeadsThere, IsNoted, AreNoted};
+ghost use Rattle.root_commands.specs.Noting.{change_by_id, id_if, turned, HasTurned, LeadsThere, IsJobNoted, AreJobsNoted};
 
 use cli_call::cny_base::{Copies, Name, OutOfMemory};
 use cli_call::trove_parts::TroveId;
@@ -20,7 +20,7 @@ type Noted = BTreeMap<Name, Change>;
 
 // The change that an id of a trove before the job, or of one that came, makes of what is noted of its name, if it makes one.
 fn change_of(came: bool, old: Option<&Change>, id: &TroveId) -> Result<Option<Change>, OutOfMemory>
-    ensures { IfOk result (λ change. change ≡ change_of came id.now (option_copied old.entry)) }
+    ensures { IfOk result (λ change. change ≡ change_by_id came id.now (option_copied old.entry)) }
 {
     let copy = id.copy()?;
     match old {
@@ -92,7 +92,7 @@ fn changes_of(alloc: Global, before: &[TroveId], after: &[TroveId]) -> Result<Ch
 }
 
 fn noted_job(alloc: Global, job: &NotedJob) -> Result<Note, OutOfMemory>
-    ensures { IfOk result (IsNoted job.now) }
+    ensures { IfOk result (IsJobNoted job.now) }
 {
     let changes = changes_of(alloc, job.before.get(), job.after.get())?;
     Ok(Note {
@@ -104,7 +104,7 @@ fn noted_job(alloc: Global, job: &NotedJob) -> Result<Note, OutOfMemory>
 
 /// What is told of jobs, by the ids that are noted of each.
 pub(crate) fn noted_jobs(alloc: Global, jobs: &[NotedJob]) -> Result<Vec<Note>, OutOfMemory>
-    ensures { IfOk result (λ notes. AreNoted jobs.now notes.items) }
+    ensures { IfOk result (λ notes. AreJobsNoted jobs.now notes.items) }
 {
     let mut notes = Vec::new(alloc);
     for job in jobs {

@@ -4,7 +4,7 @@ ghost use Rattle.repo_load.specs.Loading.{IsCatalogue};
 ghost use Rattle.cli_call.specs.Command.{disks, AreReady, Performs};
 ghost use Rattle.cli_call.specs.tree-disk.Disk.{Reads};
 ghost use Rattle.trove_spec.specs.AndThen.{EndsAs};
-ghost use Rattle.system_core.specs.Lists.{AreAllowed};
+ghost use Rattle.system_core.specs.Lists.{AllPathsAllowed};
 ghost use Rattle.root_commands.specs.UpdateSpecs as spec;
 ghost use Rattle.root_commands.specs.UpdateSpecs.{MeanAll, ReachAll};
 
@@ -40,7 +40,7 @@ fn all_meant(
 fn all_reached(alloc: Global, catalogue: &Catalogue, ids: &[TroveId]) -> Result<Troves, Fault>
     requires { IsCatalogue catalogue.now }
     ensures ends { EndsAs (ReachAll catalogue.now.troves ids.now) result }
-    ensures allowed { IfOk result AreAllowed }
+    ensures allowed { IfOk result AllPathsAllowed }
 {
     let troves = expand(alloc, catalogue, ids)?;
     Ok(troves)

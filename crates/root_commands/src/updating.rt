@@ -6,7 +6,7 @@ ghost use Rattle.cli_call.specs.change-set.declared.change.Carried as carried_co
 ghost use Rattle.cli_call.specs.change-set.ChangeSet.{content_cmp, HasContents};
 ghost use Rattle.cli_call.specs.Command.{disks, AreReady, Performs};
 ghost use Rattle.cli_call.specs.tree-disk.Disk.{Reads};
-ghost use Rattle.system_core.specs.Lists.{AreAllowed};
+ghost use Rattle.system_core.specs.Lists.{AllPathsAllowed};
 ghost use Rattle.root_commands.specs.Update as spec;
 
 use cli_call::change_set::{Carried, ChangeSet, decode};
@@ -31,7 +31,7 @@ pub(crate) fn update_to<T: TreeDisk, P: TreeDisk>(
     repo: &mut P,
     root: &mut T,
 ) -> Result<Text, Failure>
-    requires allowed { AreAllowed troves.now }
+    requires allowed { AllPathsAllowed troves.now }
     requires hash { All (λ (content : carried_content.Carried). content.name ≡ sha1 content.bytes) carried.now }
     requires rising { IsStrictlySortedBy content_cmp carried.now }
     requires ready { AreReady T.disk P.disk (disks root.old repo.old opened.old) }

@@ -25,11 +25,11 @@ use Rattle.system_core.specs.JobWriting.{AnswersJob, CollidesWriting, IsJobStop}
 use Rattle.local_db.specs.declared.db.Db.{Db}
 use Rattle.local_db.specs.Installed.{IsInstalled}
 use Rattle.system_core.specs.declared.done.Done.{Done}
-use Rattle.system_core.specs.Answers.{AnswersCall, AnswersRefusal, HasList, IsTestAnswer, IsTestStop, PassesListTests, collided, last, no_list, untested}
+use Rattle.system_core.specs.Answers.{AnswersCall, AnswersRefusal, HasList, IsTestAnswer, IsJobTestStop, PassesListTests, collided, last, no_list, untested}
 use Rattle.system_core.specs.Job.{IsTestRefusal, IsTested, Sources}
 use Rattle.system_core.specs.Lists.{ListStep, to_list}
 use Rattle.rollback_stack.specs.change-set.Contents.{IfRefused}
-use Rattle.system_core.specs.Something.{LacksOne}
+use Rattle.system_core.specs.Something.{LacksSomething}
 use Rattle.system_core.proofs.EndingAll.{err_is}
 use Rattle.rollback_stack.proofs.Later.{read_as}
 use Rattle.local_db.proofs.cny-base.Faults.{passed_on}
@@ -37,7 +37,7 @@ use Rattle.local_db.proofs.cny-base.Faults.{passed_on}
 -- ---- the tests
 
 module _ (list : List TroveParts) where
-  pub closed_answer : (e : Fault) → IsUnmetOrMemory list e → IsTestStop list (stop_of_fault e)
+  pub closed_answer : (e : Fault) → IsUnmetOrMemory list e → IsJobTestStop list (stop_of_fault e)
   closed_answer (fault.Refused why) is = subst (IsTestAnswer list) (sym is.3) (is.0, is.1, is.2, refl)
   closed_answer fault.Memory is = tt
 
@@ -48,7 +48,7 @@ module _ (list : List TroveParts) where
   plan_refusal (refusal.Parent path) closed kind tells = record { closed = closed; unshared = tells }
   plan_refusal _ closed kind tells = absurd kind
 
-  pub plan_answer : (e : Stop) → IsClosed list → IsPlanStop e → TellsShared list (Err e) → IsTestStop list e
+  pub plan_answer : (e : Stop) → IsClosed list → IsPlanStop e → TellsShared list (Err e) → IsJobTestStop list e
   plan_answer (Refused why) closed kind tells = plan_refusal why closed kind tells
   plan_answer Memory closed kind tells = tt
   plan_answer Failed closed kind tells = record { closed = closed; unshared = tells }
@@ -62,7 +62,7 @@ module _ (list : List TroveParts) where
   target_refusal (refusal.Collision name at) passes kind = passes
   target_refusal _ passes kind = absurd kind
 
-  pub target_answer : (e : Stop) → PassesListTests list → IsTargetStop e → IsTestStop list e
+  pub target_answer : (e : Stop) → PassesListTests list → IsTargetStop e → IsJobTestStop list e
   target_answer (Refused why) passes kind = target_refusal why passes kind
   target_answer Memory passes kind = tt
   target_answer Failed passes kind = passes
@@ -70,12 +70,12 @@ module _ (list : List TroveParts) where
   target_answer FarFailed passes kind = passes
   target_answer (FarDamaged path) passes kind = passes
 
-  pub lack_answer : (es : List Entry) (e : Fault) → PassesListTests list → IfRefused (LacksOne es) e → IsTestStop list (stop_of_fault e)
+  pub lack_answer : (es : List Entry) (e : Fault) → PassesListTests list → IfRefused (LacksSomething es) e → IsJobTestStop list (stop_of_fault e)
   lack_answer es (fault.Refused why) passes lacks = subst (IsTestAnswer list) (sym lacks.refusal_is) passes
   lack_answer es fault.Memory passes lacks = tt
 
-  pub stop_answer : {T : Type 0} (r : Result T Stop) (e : Stop) → IsErrAnd r (λ s. s ≡ e) → IsTestStop list e → IfErr r (IsTestStop list)
-  stop_answer r e is stops = passed_on (IsTestStop list) e r stops is
+  pub stop_answer : {T : Type 0} (r : Result T Stop) (e : Stop) → IsErrAnd r (λ s. s ≡ e) → IsJobTestStop list e → IfErr r (IsJobTestStop list)
+  stop_answer r e is stops = passed_on (IsJobTestStop list) e r stops is
 
 -- ---- a job with a list after it
 
@@ -85,7 +85,7 @@ not_both db list puts why (too_many short some full is) passed = passed.room ful
 
 module _ {D C : Type 0} {disk : DiskModel D} {contents : ContentsModel C} (from : Sources) (db : Db) (list : List TroveParts) {old mid : D} {far far' : C} where
   -- the tests stopped
-  pub tests_answer : (now : Db) (e : Stop) → Gathers disk contents (IsTested from db.installed list) (IsTestRefusal from db.installed list) old mid far far' (Err e) → IsTestStop list e
+  pub tests_answer : (now : Db) (e : Stop) → Gathers disk contents (IsTested from db.installed list) (IsTestRefusal from db.installed list) old mid far far' (Err e) → IsJobTestStop list e
       → AnswersCall disk from (to_list list) db old mid now (Err e)
   tests_answer now (Refused why) run stops = untested list refl stops (λ tells. read_as (run.same tells) (run.ends tells))
   tests_answer now Memory run stops = tt

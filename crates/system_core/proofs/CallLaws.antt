@@ -19,8 +19,8 @@ use Rattle.update_job.specs.Lists.{IsErased, IsOld, IsUpdated, Stays}
 use Rattle.local_db.specs.SystemState.{SystemState}
 use Rattle.system_core.specs.declared.done.Done.{Done}
 use Rattle.system_core.specs.Job.{Sources}
-use Rattle.system_core.specs.Lists.{AreAllowed, ListStep, to_list}
-use Rattle.system_core.specs.Steps.{Ends, HasCause, HasOwnCause, IsOnTheWay, IsRefusal, no_job, no_list, reading, writing}
+use Rattle.system_core.specs.Lists.{AllPathsAllowed, ListStep, to_list}
+use Rattle.system_core.specs.Steps.{StepEnds, HasStepCause, HasOwnCause, StopsOnTheWay, IsRefusal, no_job, no_list, reading, writing}
 use Rattle.local_db.proofs.cny-base.Lists.{contains_at}
 use Rattle.system_core.proofs.EndingAll.{err_is}
 use Rattle.system_core.proofs.AnswerLaws.{led}
@@ -32,11 +32,11 @@ use Rattle.local_db.proofs.cny-base.Faults.{passed_on}
 abbrev IsAllowed : TroveParts → Type 0
 IsAllowed t = first_forbidden t.files ≡ None
 
-stays_allowed : (list : List TroveParts) (IsNamed : List ℕ → Type 0) (t : TroveParts) → AreAllowed list → Stays list IsNamed t → IsAllowed t
+stays_allowed : (list : List TroveParts) (IsNamed : List ℕ → Type 0) (t : TroveParts) → AllPathsAllowed list → Stays list IsNamed t → IsAllowed t
 stays_allowed list IsNamed t allowed stays = All-contains IsAllowed list t allowed (contains_at list stays.place t stays.there)
 
 -- what an update leads to records nothing but what the lists before it did
-pub updated_allowed : (installed come list : List TroveParts) → AreAllowed installed → AreAllowed come → IsUpdated installed come list → AreAllowed list
+pub updated_allowed : (installed come list : List TroveParts) → AllPathsAllowed installed → AllPathsAllowed come → IsUpdated installed come list → AllPathsAllowed list
 updated_allowed installed come list old fresh is =
     All-weaker (Contains list) IsAllowed
     (λ t among. ⊎_elim
@@ -45,7 +45,7 @@ updated_allowed installed come list old fresh is =
     (is.from t among))
     list (All-contains_itself list)
 
-pub erased_allowed : (installed : List TroveParts) (names : List (List ℕ)) (list : List TroveParts) → AreAllowed installed → IsErased installed names list → AreAllowed list
+pub erased_allowed : (installed : List TroveParts) (names : List (List ℕ)) (list : List TroveParts) → AllPathsAllowed installed → IsErased installed names list → AllPathsAllowed list
 erased_allowed installed names list old is =
     All-weaker (Contains list) IsAllowed (λ t among. stays_allowed installed _ t old (is.stays t among)) list (All-contains_itself list)
 
@@ -56,11 +56,11 @@ refusal_by from step s list leads why (no_list never) = absurd never
 refusal_by from step s list leads why (no_job l is h) = no_job l (led step list l leads is) h
 
 module _ {D : Type 0} (disk : DiskModel D) (from : Sources) (step : ListStep) (s : SystemState) (old new : D) (db : Db) (list : List TroveParts) (leads : step.leads list) where
-  way_by : (e : Stop) → IsOnTheWay disk from (to_list list) s old new e → IsOnTheWay disk from step s old new e
+  way_by : (e : Stop) → StopsOnTheWay disk from (to_list list) s old new e → StopsOnTheWay disk from step s old new e
   way_by e (reading read) = reading read
   way_by e (writing l is puts passes last changes are goes) = writing l (led step list l leads is) puts passes last changes are goes
 
-  pub ends_by : (r : Result Done Stop) → Ends disk from (to_list list) s old new db r → Ends disk from step s old new db r
+  pub ends_by : (r : Result Done Stop) → StepEnds disk from (to_list list) s old new db r → StepEnds disk from step s old new db r
   ends_by (Ok made) is = record { list = is.list; leads = led step list is.list leads is.leads; puts = is.puts; passes = is.passes; ends = is.ends; changes = is.changes }
   ends_by (Err (Refused why)) is = read_as is (refusal_by from step s list leads why is.answer)
   ends_by (Err Memory) is = way_by Memory is
@@ -69,22 +69,22 @@ module _ {D : Type 0} (disk : DiskModel D) (from : Sources) (step : ListStep) (s
   ends_by (Err FarFailed) is = is
   ends_by (Err (FarDamaged path)) is = is
 
-  pub ends_stop : (e : Stop) (r : Result Done Stop) → IsErrAnd r (λ x. x ≡ e) → Ends disk from (to_list list) s old new db (Err e) → Ends disk from step s old new db r
-  ends_stop e r is ends = subst (Ends disk from step s old new db) (sym (err_is r e is)) (ends_by (Err e) ends)
+  pub ends_stop : (e : Stop) (r : Result Done Stop) → IsErrAnd r (λ x. x ≡ e) → StepEnds disk from (to_list list) s old new db (Err e) → StepEnds disk from step s old new db r
+  ends_stop e r is ends = subst (StepEnds disk from step s old new db) (sym (err_is r e is)) (ends_by (Err e) ends)
 
 module _ {D : Type 0} {disk : DiskModel D} (from : Sources) (step : ListStep) (s : SystemState) where
   -- no list follows, and no call was made
   pub list_stop : (laws : IsDisk disk) (d : D) (db : Db) (e : Fault) (r : Result Done Stop) → IsErrAnd r (λ x. x ≡ stop_of_fault e) → ((why : Refusal) → e ≡ fault.Refused why → step.refuses why)
-      → Ends disk from step s d d db r
-  list_stop laws d db e r is refuses = subst (Ends disk from step s d d db) (sym (err_is r (stop_of_fault e) is)) (by e refuses)
+      → StepEnds disk from step s d d db r
+  list_stop laws d db e r is refuses = subst (StepEnds disk from step s d d db) (sym (err_is r (stop_of_fault e) is)) (by e refuses)
     where
-      by : (e : Fault) → ((why : Refusal) → e ≡ fault.Refused why → step.refuses why) → Ends disk from step s d d db (Err (stop_of_fault e))
+      by : (e : Fault) → ((why : Refusal) → e ≡ fault.Refused why → step.refuses why) → StepEnds disk from step s d d db (Err (stop_of_fault e))
       by (fault.Refused why) refuses = record { answer = no_list (refuses why refl); same = same_start disk d; time = time_start laws d }
       by fault.Memory refuses = reading (record { answer = tt; same = same_start disk d; time = time_start laws d })
 
 -- ---- why it stops
 
-pub fault_cause : {C : Type 0} (contents : ContentsModel C) (far far' : C) (rose : Type 0) (e : Fault) → HasCause contents far far' rose (stop_of_fault e)
+pub fault_cause : {C : Type 0} (contents : ContentsModel C) (far far' : C) (rose : Type 0) (e : Fault) → HasStepCause contents far far' rose (stop_of_fault e)
 fault_cause contents far far' rose (fault.Refused why) = tt
 fault_cause contents far far' rose fault.Memory = tt
 
@@ -96,7 +96,7 @@ pub no_rise : Rose 0 0 → ⊥
 no_rise h = omega (arith, h)
 
 -- a source without contents never fails, and nothing of it is damaged
-pub own_cause : {C : Type 0} (far far' : C) (rose : Type 0) (e : Stop) → HasCause (empty_contents {C = C}) far far' rose e → HasOwnCause rose e
+pub own_cause : {C : Type 0} (far far' : C) (rose : Type 0) (e : Stop) → HasStepCause (empty_contents {C = C}) far far' rose e → HasOwnCause rose e
 own_cause far far' rose (Refused why) cause = tt
 own_cause far far' rose Memory cause = tt
 own_cause far far' rose Failed cause = cause

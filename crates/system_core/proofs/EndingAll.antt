@@ -19,11 +19,11 @@ use Rattle.local_db.specs.declared.format.Format.{Format}
 use Rattle.local_db.specs.declared.format.Format.TheVariants.{Two}
 use Rattle.local_db.proofs.Several.{rollbacks_system}
 use Rattle.rollback_stack.specs.declared.undo.Back.{Back}
-use Rattle.system_core.specs.RootWriting.{AreSettled, Goes, IsPut, RestsAt}
+use Rattle.system_core.specs.RootWriting.{AreSettled, TakesRoot, IsPut, RestsInFormat}
 use Rattle.rollback_stack.specs.Inverse.{IsBackRefusal, IsBackStop}
 use Rattle.rollback_stack.proofs.Later.{read_as}
 use Rattle.system_core.specs.RestoringAll.{AreRestored, AreUnedited, IsExceptionTo, RestoresTo}
-use Rattle.system_core.specs.Rollback.{HasCause, IsReadyWith}
+use Rattle.system_core.specs.Rollback.{HasRollbackCause, MayRollBack}
 use Rattle.system_core.specs.Several.{EndsTo, HasJob, HasStepTo, HasTakenBackTo, IsRefusalKindTo, IsRefusalTo, IsStepTo, RollsBackTo, StopsTo, jobs_below, jobs_to, paths_of_jobs, rolled_back_to}
 use Rattle.system_core.proofs.Counting.{split_at}
 use Rattle.system_core.proofs.Moving.{moved}
@@ -93,14 +93,14 @@ are_restored x y s number left stores after is = record {
 
 -- ---- the write set, put on the root
 
-module _ {D : Type 0} (disk : DiskModel D) (laws : IsDisk disk) (one_db : OneDatabase) (one_record : OneRecord) (db : Db) (number : ℕ) (old mid new : D) (ready : IsReadyWith disk db old) (step : Back)
+module _ {D : Type 0} (disk : DiskModel D) (laws : IsDisk disk) (one_db : OneDatabase) (one_record : OneRecord) (db : Db) (number : ℕ) (old mid new : D) (ready : MayRollBack disk db old) (step : Back)
     (run : HasRead disk old mid (IsStepTo (disk.reads old) db number step)) (early : disk.faults old ≤ disk.faults mid) (late : disk.faults mid ≤ disk.faults new) (w : Result (Unit {0}) Stop)
-    (goes : (f g : Format) (s t : SystemState) → StoresIn f (disk.reads mid) s → AreSettled disk mid s → StoresIn g (with_targets step.puts (disk.reads mid)) t → Goes disk g s t step.puts mid new w)
+    (goes : (f g : Format) (s t : SystemState) → StoresIn f (disk.reads mid) s → AreSettled disk mid s → StoresIn g (with_targets step.puts (disk.reads mid)) t → TakesRoot disk g s t step.puts mid new w)
     (s : SystemState) (stores : StoresIn Two (disk.reads old) s) where
   to : IsSystemStepTo (disk.reads old) s number step
   to = system_step_to one_db one_record (disk.reads old) s stores db ready.holds (laws.reads_well_formed old) number step run.answer
 
-  went : Goes disk Two s (rolled_back_to number s) step.puts mid new w
+  went : TakesRoot disk Two s (rolled_back_to number s) step.puts mid new w
   went = goes Two Two s (rolled_back_to number s) (subst (λ (x : Tree). StoresIn Two x s) (sym run.same.reads) stores) (λ q counts. run.same.unsynced q ∙ ready.synced q)
       (subst (λ (x : Tree). StoresIn Two (with_targets step.puts x) (rolled_back_to number s)) (sym run.same.reads) to.stored)
 
@@ -115,8 +115,8 @@ module _ {D : Type 0} (disk : DiskModel D) (laws : IsDisk disk) (one_db : OneDat
   failed_restores_to has unedited e is = restores_to_err (disk.reads old) s stores number has unedited db (disk.reads new) e (unfinished_to s number db e is)
 
   module _ (done : w ≡ Ok tt) where
-    rests : RestsAt disk Two (rolled_back_to number s) new
-    rests = subst (λ (r : Result (Unit {0}) Stop). OnOk r (RestsAt disk Two (rolled_back_to number s) new)) done went.rests
+    rests : RestsInFormat disk Two (rolled_back_to number s) new
+    rests = subst (λ (r : Result (Unit {0}) Stop). OnOk r (RestsInFormat disk Two (rolled_back_to number s) new)) done went.rests
 
     pub done_rolls_to : (count : ℕ) → count + number ≡ db.newest + 1 → RollsBackTo disk s number step.db old new (Ok count)
     done_rolls_to count is = record {
@@ -175,7 +175,7 @@ kind_to told x db number (Edited path) is = is.0
 kind_to told x db number (Parent path) is = is.0
 kind_to told x db number _ is = absurd is.0
 
-pub cause_to : (told : Bool) (x : Tree) (db : Db) (number : ℕ) (rose : Type 0) (e : Stop) → IsBackStop told x db number rose e → HasCause (IsRefusalKindTo db number) rose e
+pub cause_to : (told : Bool) (x : Tree) (db : Db) (number : ℕ) (rose : Type 0) (e : Stop) → IsBackStop told x db number rose e → HasRollbackCause (IsRefusalKindTo db number) rose e
 cause_to told x db number rose stop.Failed is = is
 cause_to told x db number rose stop.Memory is = tt
 cause_to told x db number rose (stop.Refused why) is = kind_to told x db number why is
@@ -183,7 +183,7 @@ cause_to told x db number rose (stop.Damaged path) is = tt
 cause_to told x db number rose stop.FarFailed is = is
 cause_to told x db number rose (stop.FarDamaged path) is = is
 
-pub cause_written : (IsKind : Refusal → Type 0) (rose : Type 0) (e : Stop) → IsDiskStop e → (e ≡ stop.Failed → rose) → HasCause IsKind rose e
+pub cause_written : (IsKind : Refusal → Type 0) (rose : Type 0) (e : Stop) → IsDiskStop e → (e ≡ stop.Failed → rose) → HasRollbackCause IsKind rose e
 cause_written IsKind rose stop.Failed is failed = failed refl
 cause_written IsKind rose stop.Memory is failed = tt
 cause_written IsKind rose (stop.Refused why) is failed = absurd is

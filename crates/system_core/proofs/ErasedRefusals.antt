@@ -28,7 +28,7 @@ use Rattle.local_db.specs.SystemState.{SystemState}
 use Rattle.system_core.specs.declared.done.Done.{Done}
 use Rattle.system_core.specs.Job.{IsJobRefusal, IsTestRefusal, Sources, last, unmet, unplanned, untargeted, untested}
 use Rattle.system_core.specs.Lists.{to_erased}
-use Rattle.system_core.specs.Steps.{Ends, HasOwnCause, IsErasureRefusal, IsErasureStop, IsJobLimit, IsRefusal, no_job, no_list}
+use Rattle.system_core.specs.Steps.{StepEnds, HasOwnCause, IsErasureRefusal, IsErasureStop, IsJobLimit, IsRefusal, no_job, no_list}
 use Rattle.system_core.proofs.Erasing.{erased_dir, erased_owned, erased_unshared}
 use Rattle.local_db.proofs.cny-base.Lists.{contains_at, contains_first, contains_rest}
 
@@ -80,7 +80,7 @@ refusal_of_erasure from s list_is names why (no_list is) = let r : IsNotInstalle
 refusal_of_erasure from s list_is names why (no_job list leads is) = job_refusal from s list_is names list leads.1 why is
 
 pub erasure_stops : {D : Type 0} (disk : DiskModel D) (from : Sources) (s : SystemState) → IsInstalled s.installed → (names : List (List ℕ)) (old new : D) (db : Db) (r : Result Done Stop)
-    → Ends disk from (to_erased s.installed names) s old new db r → (rose : Type 0) → IfErr r (HasOwnCause rose) → IfErr r IsErasureStop
+    → StepEnds disk from (to_erased s.installed names) s old new db r → (rose : Type 0) → IfErr r (HasOwnCause rose) → IfErr r IsErasureStop
 erasure_stops disk from s list_is names old new db (Ok made) ends rose cause = tt
 erasure_stops disk from s list_is names old new db (Err (Refused why)) ends rose cause = refusal_of_erasure from s list_is names why ends.answer
 erasure_stops disk from s list_is names old new db (Err Memory) ends rose cause = tt

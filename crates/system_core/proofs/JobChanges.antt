@@ -22,7 +22,7 @@ use Rattle.update_job.proofs.Noting.{found_in, nameless_from}
 use Rattle.local_db.specs.Installed.{IsInstalled}
 use Rattle.local_db.specs.SystemState.{is_listed}
 use Rattle.rollback_stack.specs.job-record.Changed.{AreChangedNames}
-use Rattle.system_core.specs.Changing.{names_of}
+use Rattle.system_core.specs.Changing.{names_changed}
 use Rattle.system_core.proofs.ListChanges.{AreDistinct, names_rise}
 use Rattle.local_db.proofs.trove-stream.Names.{one_list}
 use Rattle.local_db.proofs.cny-base.Lists.{contains_cases, contains_first, contains_rest, nothing_in}
@@ -37,17 +37,17 @@ pub record ChangeOf (changes : List Change) (name : Name) : Type 0 where
   pub there : Contains changes change
   pub named : name_of change ≡ name
 
-listed : (changes : List Change) (name : Name) → is_listed (names_of changes) name ≡ true → ChangeOf changes name
+listed : (changes : List Change) (name : Name) → is_listed (names_changed changes) name ≡ true → ChangeOf changes name
 listed [] name is = absurd (cc is)
 listed (c ∷ changes) name is = by (same_name name (name_of c)) refl (listed changes name)
   where
-    by : (b : Bool) → same_name name (name_of c) ≡ b → (is_listed (names_of changes) name ≡ true → ChangeOf changes name) → ChangeOf (c ∷ changes) name
+    by : (b : Bool) → same_name name (name_of c) ≡ b → (is_listed (names_changed changes) name ≡ true → ChangeOf changes name) → ChangeOf (c ∷ changes) name
     by true here rest = record { change = c; there = contains_first c changes; named = sym (same_means name (name_of c) here) }
     by false other rest =
-        let more = rest (sym (ap (λ (b : Bool). b || is_listed (names_of changes) name) other) ∙ is) in
+        let more = rest (sym (ap (λ (b : Bool). b || is_listed (names_changed changes) name) other) ∙ is) in
         record { change = more.change; there = contains_rest c more.change changes more.there; named = more.named }
 
-is_listed-from : (changes : List Change) (c : Change) → Contains changes c → is_listed (names_of changes) (name_of c) ≡ true
+is_listed-from : (changes : List Change) (c : Change) → Contains changes c → is_listed (names_changed changes) (name_of c) ≡ true
 is_listed-from [] c in' = absurd (nothing_in c in')
 is_listed-from (d ∷ changes) c in' = ⊎_elim
     (λ (same : d ≡ c). or_left (same_name (name_of c) (name_of d)) _ (ap (λ (e : Change). same_name (name_of c) (name_of e)) same ∙ same_itself (name_of c)))
@@ -82,18 +82,18 @@ module _ (distinct : AreDistinct) (before after : List TroveParts) (was : IsInst
       (λ fresh. fresh_differs fresh.0 c fresh.1 fresh.2)
       (are.each c in')
 
-  pub differs_at : (name : Name) → is_listed (names_of changes) name ≡ true → trove_of name before ≢ trove_of name after
+  pub differs_at : (name : Name) → is_listed (names_changed changes) name ≡ true → trove_of name before ≢ trove_of name after
   differs_at name is =
       let c = listed changes name is in
       subst (λ (n : Name). trove_of n before ≢ trove_of n after) c.named (change_differs c.change c.there)
 
-  noted : (name : Name) (c : Change) → IsChange before after c → name_of c ≡ name → is_listed (names_of changes) name ≡ true
-  noted name c is named = ap (is_listed (names_of changes)) (sym named) ∙ is_listed-from changes c (are.all c is)
+  noted : (name : Name) (c : Change) → IsChange before after c → name_of c ≡ name → is_listed (names_changed changes) name ≡ true
+  noted name c is named = ap (is_listed (names_changed changes)) (sym named) ∙ is_listed-from changes c (are.all c is)
 
-  unlisted : {A : Type 0} (name : Name) (c : Change) → IsChange before after c → name_of c ≡ name → is_listed (names_of changes) name ≡ false → A
+  unlisted : {A : Type 0} (name : Name) (c : Change) → IsChange before after c → name_of c ≡ name → is_listed (names_changed changes) name ≡ false → A
   unlisted name c is named out = absurd (false≢true (sym out ∙ noted name c is named))
 
-  same_troves : (name : Name) → is_listed (names_of changes) name ≡ false → (t u : TroveParts) → trove_of name before ≡ Some t → trove_of name after ≡ Some u → t ≡ u
+  same_troves : (name : Name) → is_listed (names_changed changes) name ≡ false → (t u : TroveParts) → trove_of name before ≡ Some t → trove_of name after ≡ Some u → t ≡ u
   same_troves name out t u t_is u_is =
       let there = found_in before name t t_is in
       let here = found_in after name u u_is in
@@ -117,7 +117,7 @@ module _ (distinct : AreDistinct) (before after : List TroveParts) (was : IsInst
       here.1 out)
       (cases_Bool (bytes_eq (stream_bytes Explicit t) (stream_bytes Explicit u)))
 
-  both_same : (name : Name) → is_listed (names_of changes) name ≡ false → (a b : Option TroveParts) → trove_of name before ≡ a → trove_of name after ≡ b → a ≡ b
+  both_same : (name : Name) → is_listed (names_changed changes) name ≡ false → (a b : Option TroveParts) → trove_of name before ≡ a → trove_of name after ≡ b → a ≡ b
   both_same name out None None a_is b_is = refl
   both_same name out (Some t) None a_is b_is =
       let there = found_in before name t a_is in
@@ -127,22 +127,22 @@ module _ (distinct : AreDistinct) (before after : List TroveParts) (was : IsInst
       unlisted name (Installed u.id) (inr (u, here.0, inl (λ t t_in t_is. nameless_from before name a_is t t_in (t_is ∙ here.1), refl))) here.1 out
   both_same name out (Some t) (Some u) a_is b_is = ap Some (same_troves name out t u a_is b_is)
 
-  pub same_at : (name : Name) → is_listed (names_of changes) name ≡ false → trove_of name before ≡ trove_of name after
+  pub same_at : (name : Name) → is_listed (names_changed changes) name ≡ false → trove_of name before ≡ trove_of name after
   same_at name out = both_same name out (trove_of name before) (trove_of name after) refl refl
 
-  pub changed_names : AreChangedNames before after (names_of changes)
+  pub changed_names : AreChangedNames before after (names_changed changes)
   changed_names = record {
     rising = names_rise changes are.rising;
-    changed = λ name there. record { differs = differs_at name (listed_from (names_of changes) name there) };
+    changed = λ name there. record { differs = differs_at name (listed_from (names_changed changes) name there) };
     others = λ name none. ⊎_elim
-        (λ (is : is_listed (names_of changes) name ≡ true). absurd (none (listed_is (names_of changes) name is)))
-        (λ (out : is_listed (names_of changes) name ≡ false). same_at name out)
-        (cases_Bool (is_listed (names_of changes) name));
+        (λ (is : is_listed (names_changed changes) name ≡ true). absurd (none (listed_is (names_changed changes) name is)))
+        (λ (out : is_listed (names_changed changes) name ≡ false). same_at name out)
+        (cases_Bool (is_listed (names_changed changes) name));
   }
 
   -- without a change the lists are one
   pub same_lists : changes ≡ [] → after ≡ before
-  same_lists none = one_list after before now.rising was.rising (λ name. sym (same_at name (ap (λ (l : List Change). is_listed (names_of l) name) none)))
+  same_lists none = one_list after before now.rising was.rising (λ name. sym (same_at name (ap (λ (l : List Change). is_listed (names_changed l) name) none)))
 
   -- and where there is one they aren't
   pub other_lists : (c : Change) (rest : List Change) → changes ≡ c ∷ rest → after ≡ before → ⊥

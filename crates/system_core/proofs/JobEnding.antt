@@ -34,10 +34,10 @@ use Rattle.rollback_stack.specs.change-set.Contents.{IfRefused}
 use Rattle.rollback_stack.proofs.Pushed.{keeps_start}
 use Rattle.rollback_stack.specs.Saving.{is_saving_name}
 use Rattle.rollback_stack.specs.job-record.Changed.{AreChangedNames}
-use Rattle.system_core.specs.RootWriting.{Goes}
-use Rattle.system_core.specs.Last.{number_after, oldest_after, too_large, too_many, ChangesNothing, IsLastOrMemory, IsRefusedLast, PassesLast}
+use Rattle.system_core.specs.RootWriting.{TakesRoot}
+use Rattle.system_core.specs.Last.{number_after, oldest_after, too_large, too_many, ChangesNeither, IsLastOrMemory, IsRefusedLast, PassesLast}
 use Rattle.system_core.specs.Last as last
-use Rattle.system_core.specs.JobWriting.{AnswersJob, AreTargetsOf, CanPutJob, CanWriteJob, IsJobFrom, IsJobOf, IsJobStop, JobEnds, done}
+use Rattle.system_core.specs.JobWriting.{AnswersJob, AreTargetsOf, CanPutJob, CanWriteJob, IsJobFrom, IsJobMade, IsJobStop, JobEnds, done}
 use Rattle.system_core.proofs.Held.{OneDatabase, one_held}
 use Rattle.system_core.proofs.JobNumbers.{ends_after, number_is, oldest_pushed, room_of}
 use Rattle.system_core.proofs.JobRunning.{stopped_before}
@@ -61,7 +61,7 @@ no_dir_at x list low high (written is file) = is_file_or_none (get x database) _
 -- what is made of a job that passes the last tests
 pub job_is : (before : Db) (list : List TroveParts) (names : List Name) (db : Db) (bytes : List ℕ) → db ≡ last.db_after before list → before.newest ≢ JOBS_LIMIT
     → IsDatabase Two before.installed before.oldest before.newest → IsInstalled list → Fits Two db.installed → AreChangedNames before.installed list names
-    → bytes ≡ database_bytes Two db.installed db.oldest db.newest → IsJobOf before list names db bytes
+    → bytes ≡ database_bytes Two db.installed db.oldest db.newest → IsJobMade before list names db bytes
 job_is before list names db bytes db_is room was installed fits names_are text = record {
   db_is = db_is;
   database = record {
@@ -83,7 +83,7 @@ job_is before list names db bytes db_is room was installed fits names_are text =
     oldest_is : db.oldest ≡ oldest_after before.oldest (number_after before.newest)
     oldest_is = ap (λ (d : Db). d.oldest) db_is
 
-module _ (before : Db) (list : List TroveParts) (puts : List Put) (es : List Entry) (names : List Name) (db : Db) (bytes : List ℕ) (is : IsJobOf before list names db bytes) where
+module _ (before : Db) (list : List TroveParts) (puts : List Put) (es : List Entry) (names : List Name) (db : Db) (bytes : List ℕ) (is : IsJobMade before list names db bytes) where
   list_is : db.installed ≡ list
   list_is = ap (λ (d : Db). d.installed) is.db_is
 
@@ -120,13 +120,13 @@ module _ (before : Db) (list : List TroveParts) (puts : List Put) (es : List Ent
       from : IsJobFrom s puts before.installed db
       from = job_from unique (disk.reads old) s can.holds stores
 
-      as_list : (result : Result (Unit {0}) Stop) → Goes disk Two s (after_job puts db.installed s) puts old new result → Goes disk Two s (after_job puts list s) puts old new result
-      as_list result goes = subst (λ (l : List TroveParts). Goes disk Two s (after_job puts l s) puts old new result) list_is goes
+      as_list : (result : Result (Unit {0}) Stop) → TakesRoot disk Two s (after_job puts db.installed s) puts old new result → TakesRoot disk Two s (after_job puts list s) puts old new result
+      as_list result goes = subst (λ (l : List TroveParts). TakesRoot disk Two s (after_job puts l s) puts old new result) list_is goes
 
-      pub written_job : (number : ℕ) → number ≡ db.newest → Goes disk Two s (after_job puts db.installed s) puts old new done → JobEnds disk puts list s old new (Ok (Some number))
+      pub written_job : (number : ℕ) → number ≡ db.newest → TakesRoot disk Two s (after_job puts db.installed s) puts old new done → JobEnds disk puts list s old new (Ok (Some number))
       written_job number number_is goes = (number_is ∙ from.newest_is, as_list done goes)
 
-      at_stop : (rose : Type 0) (e : Stop) → IsTrue disk.tells → IsPushStop disk.tells rose e → Goes disk Two s (after_job puts list s) puts old new (Err e) → JobEnds disk puts list s old new (Err e)
+      at_stop : (rose : Type 0) (e : Stop) → IsTrue disk.tells → IsPushStop disk.tells rose e → TakesRoot disk Two s (after_job puts list s) puts old new (Err e) → JobEnds disk puts list s old new (Err e)
       at_stop rose Failed tells stops goes = goes
       at_stop rose Memory tells stops goes = goes
       at_stop rose (Refused why) tells stops goes = absurd (stops.untold tells)
@@ -135,7 +135,7 @@ module _ (before : Db) (list : List TroveParts) (puts : List Put) (es : List Ent
       at_stop rose (FarDamaged path) tells stops goes = absurd stops
 
       pub stopped_job : (rose : Type 0) (e : Stop) (r : Result (Option ℕ) Stop) → IsErrAnd r (λ x. x ≡ e) → IsTrue disk.tells → IsPushStop disk.tells rose e
-          → Goes disk Two s (after_job puts db.installed s) puts old new (Err e) → JobEnds disk puts list s old new r
+          → TakesRoot disk Two s (after_job puts db.installed s) puts old new (Err e) → JobEnds disk puts list s old new r
       stopped_job rose e (Ok x) same tells stops goes = absurd same
       stopped_job rose e (Err x) same tells stops goes =
           subst (λ (y : Stop). JobEnds disk puts list s old new (Err y)) (sym same) (at_stop rose e tells stops (as_list (Err e) goes))
@@ -144,7 +144,7 @@ module _ (before : Db) (list : List TroveParts) (puts : List Put) (es : List Ent
 
 module _ {D : Type 0} {disk : DiskModel D} (laws : IsDisk disk) (before : Db) (list : List TroveParts) (puts : List Put) (es : List Entry) (d : D) (can : CanWriteJob disk before puts es d)
     (s : SystemState) (stores : StoresIn Two (disk.reads d) s) where
-  no_call : (Why : Stop → Type 0) (result : Result (Unit {0}) Stop) → IsErrAnd result Why → Goes disk Two s (after_job puts list s) puts d d result
+  no_call : (Why : Stop → Type 0) (result : Result (Unit {0}) Stop) → IsErrAnd result Why → TakesRoot disk Two s (after_job puts list s) puts d d result
   no_call Why result is = stopped_before 0 None puts d d can.flag_clear can.synced (confined_start laws (Among (is_saving_name 0 None)) d) s (after_job puts list s)
       (keeps_start laws Two s d (λ q counted. can.synced q) stores) Why result is
 
@@ -158,13 +158,13 @@ module _ {D : Type 0} {disk : DiskModel D} (laws : IsDisk disk) (before : Db) (l
 
 -- ---- stops
 
-last_refusal : (db : Db) (list : List TroveParts) (puts : List Put) (e : Fault) → (ChangesNothing db list puts → ⊥) → IsLastOrMemory db.newest list e → IfRefused (IsRefusedLast db list puts) e
+last_refusal : (db : Db) (list : List TroveParts) (puts : List Put) (e : Fault) → (ChangesNeither db list puts → ⊥) → IsLastOrMemory db.newest list e → IfRefused (IsRefusedLast db list puts) e
 last_refusal db list puts (fault.Refused why) changes (inl large) = too_large large.0 large.1
 last_refusal db list puts (fault.Refused why) changes (inr many) = too_many many.0 changes many.1 many.2
 last_refusal db list puts fault.Memory changes is = tt
 
 -- a last test failed, where something changes
-pub last_fault : {T : Type 0} (db : Db) (list other : List TroveParts) (puts : List Put) (e : Fault) (r : Result T Fault) → IsErrAnd r (λ x. x ≡ e) → (ChangesNothing db list puts → ⊥)
+pub last_fault : {T : Type 0} (db : Db) (list other : List TroveParts) (puts : List Put) (e : Fault) (r : Result T Fault) → IsErrAnd r (λ x. x ≡ e) → (ChangesNeither db list puts → ⊥)
     → other ≡ list → IsLastOrMemory db.newest other e → IfErr r (IfRefused (IsRefusedLast db list puts))
 last_fault db list other puts e r same changes lists is =
     passed_on (IfRefused (IsRefusedLast db list puts)) e r (last_refusal db list puts e changes (subst (λ (l : List TroveParts). IsLastOrMemory db.newest l e) lists is)) same

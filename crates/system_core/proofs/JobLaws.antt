@@ -25,16 +25,16 @@ use Rattle.local_db.specs.Installed.{IsInstalled}
 use Rattle.local_db.specs.SystemState.{SystemState, newest, oldest}
 use Rattle.local_db.specs.Stores.{HoldsDatabase, StoresIn}
 use Rattle.local_db.specs.Steps.{after_job}
-use Rattle.system_core.specs.RootWriting.{Goes}
+use Rattle.system_core.specs.RootWriting.{TakesRoot}
 use Rattle.job_targets.specs.declared.targets.Targets.{Targets}
 use Rattle.job_targets.specs.Gathering.{Gathers}
-use Rattle.system_core.specs.Last.{ChangesNothing, IsRefusedLast, PassesLast}
+use Rattle.system_core.specs.Last.{ChangesNeither, IsRefusedLast, PassesLast}
 use Rattle.system_core.specs.JobWriting.{AnswersJob, AreTargetsOf, CanWriteJob, CollidesWriting, IsJobStop, JobEnds, done}
 use Rattle.system_core.specs.declared.done.Done.{Done}
 use Rattle.system_core.specs.Job.{IsTestRefusal, IsTested, PassesTests, Sources, db_of, last, untested}
-use Rattle.system_core.specs.Lists.{AreAllowed, to_list}
-use Rattle.system_core.specs.RootReady.{IsReady}
-use Rattle.system_core.specs.Steps.{EndsWith, Ends, HasCause, IsOnTheWay, changed, no_job, reading, unchanged, writing}
+use Rattle.system_core.specs.Lists.{AllPathsAllowed, to_list}
+use Rattle.system_core.specs.RootReady.{MayBeginJob}
+use Rattle.system_core.specs.Steps.{StaysOrChanges, StepEnds, HasStepCause, StopsOnTheWay, changed, no_job, reading, unchanged, writing}
 use Rattle.system_core.proofs.Held.{OneDatabase, SameParts, one_held}
 use Rattle.system_core.proofs.Managed.{IsManaged, KeepsOut}
 use Rattle.system_core.proofs.ManagedTargets.{test_refusal_managed, tested_managed}
@@ -47,7 +47,7 @@ use Rattle.local_db.proofs.cny-base.Faults.{passed_on}
 
 module _ {D C : Type 0} {disk : DiskModel D} {contents : ContentsModel C} where
   pub tested_cause : {X : Type 0} {P : Tree → X → Type 0} {Q : Tree → Refusal → Type 0} {old mid : D} {far far' : C} (e : Stop)
-      → Gathers disk contents P Q old mid far far' (Err e) → HasCause contents far far' (Rose (disk.faults old) (disk.faults mid)) e
+      → Gathers disk contents P Q old mid far far' (Err e) → HasStepCause contents far far' (Rose (disk.faults old) (disk.faults mid)) e
   tested_cause (Refused why) run = tt
   tested_cause Memory run = tt
   tested_cause Failed run = run.ends
@@ -56,7 +56,7 @@ module _ {D C : Type 0} {disk : DiskModel D} {contents : ContentsModel C} where
   tested_cause (FarDamaged path) run = run.ends
 
 pub written_cause : {C : Type 0} (contents : ContentsModel C) (far far' : C) (a b c : ℕ) (told : Bool) (db : Db) (list : List TroveParts) (puts : List Put) (e : Stop) → a ≤ b
-    → IsJobStop told (Rose b c) db list puts e → HasCause contents far far' (Rose a c) e
+    → IsJobStop told (Rose b c) db list puts e → HasStepCause contents far far' (Rose a c) e
 written_cause contents far far' a b c told db list puts (Refused why) early stops = tt
 written_cause contents far far' a b c told db list puts Memory early stops = tt
 written_cause contents far far' a b c told db list puts Failed early stops = rose_before a b c early stops.0
@@ -64,22 +64,22 @@ written_cause contents far far' a b c told db list puts (Damaged path) early sto
 written_cause contents far far' a b c told db list puts FarFailed early stops = absurd stops
 written_cause contents far far' a b c told db list puts (FarDamaged path) early stops = absurd stops
 
-pub cause_of : {T C : Type 0} (contents : ContentsModel C) (far far' : C) (rose : Type 0) (e : Stop) (r : Result T Stop) → IsErrAnd r (λ s. s ≡ e) → HasCause contents far far' rose e → IfErr r (HasCause contents far far' rose)
-cause_of contents far far' rose e r is cause = passed_on (HasCause contents far far' rose) e r cause is
+pub cause_of : {T C : Type 0} (contents : ContentsModel C) (far far' : C) (rose : Type 0) (e : Stop) (r : Result T Stop) → IsErrAnd r (λ s. s ≡ e) → HasStepCause contents far far' rose e → IfErr r (HasStepCause contents far far' rose)
+cause_of contents far far' rose e r is cause = passed_on (HasStepCause contents far far' rose) e r cause is
 
-pub memory_cause : {T C : Type 0} (contents : ContentsModel C) (far far' : C) (rose : Type 0) (r : Result T Stop) → IsErrAnd r (λ s. s ≡ Memory) → IfErr r (HasCause contents far far' rose)
+pub memory_cause : {T C : Type 0} (contents : ContentsModel C) (far far' : C) (rose : Type 0) (r : Result T Stop) → IsErrAnd r (λ s. s ≡ Memory) → IfErr r (HasStepCause contents far far' rose)
 memory_cause contents far far' rose r is = cause_of contents far far' rose Memory r is tt
 
 -- ---- by a system
 
 -- no memory was left for the changes
 pub memory_stop : {D : Type 0} {disk : DiskModel D} (laws : IsDisk disk) (from : Sources) (list : List TroveParts) (s : SystemState) (old : D) (now : Db) (r : Result Done Stop) → IsErrAnd r (λ x. x ≡ Memory)
-    → Ends disk from (to_list list) s old old now r
+    → StepEnds disk from (to_list list) s old old now r
 memory_stop {disk = disk} laws from list s old now r is =
-    subst (Ends disk from (to_list list) s old old now) (sym (err_is r Memory is)) (reading (record { answer = tt; same = same_start disk old; time = time_start laws old }))
+    subst (StepEnds disk from (to_list list) s old old now) (sym (err_is r Memory is)) (reading (record { answer = tt; same = same_start disk old; time = time_start laws old }))
 
 module _ {D : Type 0} {disk : DiskModel D} (laws : IsDisk disk) (tells : IsTrue disk.tells) (from : Sources) (db : Db) (list : List TroveParts) (is_db : IsInstalled db.installed)
-    (troves : All IsTrove list) (allowed : AreAllowed list) (old : D) (ready : IsReady disk db old) (unique : OneDatabase) (s : SystemState) (stores : StoresIn Two (disk.reads old) s) where
+    (troves : All IsTrove list) (allowed : AllPathsAllowed list) (old : D) (ready : MayBeginJob disk db old) (unique : OneDatabase) (s : SystemState) (stores : StoresIn Two (disk.reads old) s) where
   parts : SameParts db.installed s.installed db.oldest db.newest (oldest s.stack) (newest s.stack)
   parts = one_held unique (disk.reads old) db.installed s.installed db.oldest db.newest (oldest s.stack) (newest s.stack) ready.holds stores.list
 
@@ -103,7 +103,7 @@ module _ {D : Type 0} {disk : DiskModel D} (laws : IsDisk disk) (tells : IsTrue 
 
   -- a test failed, or the tests stopped
   pub tests_end : {C : Type 0} {contents : ContentsModel C} {mid : D} {far far' : C} (now : Db) (e : Stop) → Gathers disk contents (IsTested from db.installed list) (IsTestRefusal from db.installed list) old mid far far' (Err e)
-      → Ends disk from (to_list list) s old mid now (Err e)
+      → StepEnds disk from (to_list list) s old mid now (Err e)
   tests_end now (Refused why) run = read_as (run.same tells) (no_job list refl (untested (refused why (run.ends tells))))
   tests_end now Memory run = reading (run.same tells)
   tests_end now Failed run = reading (run.same tells)
@@ -113,8 +113,8 @@ module _ {D : Type 0} {disk : DiskModel D} (laws : IsDisk disk) (tells : IsTrue 
 
   pub tests_stop : {C : Type 0} {contents : ContentsModel C} {mid : D} {far far' : C} (now : Db) (e : Stop) (r : Result Done Stop) → IsErrAnd r (λ x. x ≡ e)
       → Gathers disk contents (IsTested from db.installed list) (IsTestRefusal from db.installed list) old mid far far' (Err e)
-      → Ends disk from (to_list list) s old mid now r
-  tests_stop {mid = mid} now e r is run = subst (Ends disk from (to_list list) s old mid now) (sym (err_is r e is)) (tests_end now e run)
+      → StepEnds disk from (to_list list) s old mid now r
+  tests_stop {mid = mid} now e r is run = subst (StepEnds disk from (to_list list) s old mid now) (sym (err_is r e is)) (tests_end now e run)
 
   module _ {C : Type 0} {contents : ContentsModel C} {mid : D} {far far' : C} (made : Targets) (run : Gathers disk contents (IsTested from db.installed list) (IsTestRefusal from db.installed list) old mid far far' (Ok made)) where
     read : HasRead disk old mid (Unit {0})
@@ -124,7 +124,7 @@ module _ {D : Type 0} {disk : DiskModel D} (laws : IsDisk disk) (tells : IsTrue 
     stored = subst (λ (x : Tree). StoresIn Two x s) (sym read.same.reads) stores
 
     module _ {new : D} (late : disk.faults mid ≤ disk.faults new) where
-      went : {w : Result (Unit {0}) Stop} → Goes disk Two s (after_job made.puts list s) made.puts mid new w → Goes disk Two s (after_job made.puts list s) made.puts old new w
+      went : {w : Result (Unit {0}) Stop} → TakesRoot disk Two s (after_job made.puts list s) made.puts mid new w → TakesRoot disk Two s (after_job made.puts list s) made.puts old new w
       went goes = goes_behind laws s ready.flag_clear ready.synced stores read Two (after_job made.puts list s) made.puts run.later late goes
 
       still : new ≡ mid → HasRead disk old new (Unit {0})
@@ -132,14 +132,14 @@ module _ {D : Type 0} {disk : DiskModel D} (laws : IsDisk disk) (tells : IsTrue 
 
       -- the writing stopped
       -- it was still to begin, or on its way behind the last tests
-      way : (changes : List Change) → AreChanges db.installed list changes → (e : Stop) → (new ≡ mid) ⊎ PassesLast db list made.puts → Goes disk Two s (after_job made.puts list s) made.puts mid new (Err e) → IsOnTheWay disk from (to_list list) s old new e
+      way : (changes : List Change) → AreChanges db.installed list changes → (e : Stop) → (new ≡ mid) ⊎ PassesLast db list made.puts → TakesRoot disk Two s (after_job made.puts list s) made.puts mid new (Err e) → StopsOnTheWay disk from (to_list list) s old new e
       way changes are e tested goes = ⊎_elim
           (λ (same : new ≡ mid). reading (still same))
           (λ (passed : PassesLast db list made.puts). writing list refl made.puts (passes made (run.ends tells)) (subst (λ (d : Db). PassesLast d list made.puts) db_is passed) changes (subst (λ (l : List TroveParts). AreChanges l list changes) parts.lists are) (went goes))
           tested
 
       write_end : (changes : List Change) → AreChanges db.installed list changes → (now : Db) (e : Stop) → JobEnds disk made.puts list s mid new (Err e) → (IsTrue disk.tells → (why : Refusal) → e ≡ Refused why → IsRefusedLast db list made.puts why)
-          → (new ≡ mid) ⊎ PassesLast db list made.puts → Ends disk from (to_list list) s old new now (Err e)
+          → (new ≡ mid) ⊎ PassesLast db list made.puts → StepEnds disk from (to_list list) s old new now (Err e)
       write_end changes are now (Refused why) ends stops tested =
           read_as (still ends) (no_job list refl (last made.puts (passes made (run.ends tells)) (subst (λ (d : Db). IsRefusedLast d list made.puts why) db_is (stops tells why refl))))
       write_end changes are now Memory ends stops tested = way changes are Memory tested ends
@@ -155,8 +155,8 @@ module _ {D : Type 0} {disk : DiskModel D} (laws : IsDisk disk) (tells : IsTrue 
           (subst (IsJobStop disk.tells rose db list made.puts) is stops)
 
       pub write_stop : (changes : List Change) → AreChanges db.installed list changes → (rose : Type 0) (now : Db) (e : Stop) (r : Result Done Stop) → IsErrAnd r (λ x. x ≡ e) → JobEnds disk made.puts list s mid new (Err e) → IsJobStop disk.tells rose db list made.puts e
-          → (new ≡ mid) ⊎ PassesLast db list made.puts → Ends disk from (to_list list) s old new now r
-      write_stop changes are rose now e r is ends stops tested = subst (Ends disk from (to_list list) s old new now) (sym (err_is r e is)) (write_end changes are now e ends (refusal_of_stop rose e stops) tested)
+          → (new ≡ mid) ⊎ PassesLast db list made.puts → StepEnds disk from (to_list list) s old new now r
+      write_stop changes are rose now e r is ends stops tested = subst (StepEnds disk from (to_list list) s old new now) (sym (err_is r e is)) (write_end changes are now e ends (refusal_of_stop rose e stops) tested)
 
       -- the database afterwards
       db_then : (now : Db) (t : SystemState) → HoldsDatabase Two (disk.reads new) now.installed now.oldest now.newest → StoresIn Two (disk.reads new) t → now ≡ db_of t
@@ -166,17 +166,17 @@ module _ {D : Type 0} {disk : DiskModel D} (laws : IsDisk disk) (tells : IsTrue 
           λ i. record { installed = same.lists i; oldest = same.lows i; newest = same.highs i }
 
       end_with : (now : Db) (number : Option ℕ) → JobEnds disk made.puts list s mid new (Ok number) → AnswersJob db list made.puts now (Ok number)
-          → HoldsDatabase Two (disk.reads new) now.installed now.oldest now.newest → EndsWith disk s list made.puts old new now number
+          → HoldsDatabase Two (disk.reads new) now.installed now.oldest now.newest → StaysOrChanges disk s list made.puts old new now number
       end_with now None ends answers holds =
-          unchanged (subst (λ (d : Db). ChangesNothing d list made.puts) db_is answers.1) (still ends) (answers.0 ∙ db_is) refl
+          unchanged (subst (λ (d : Db). ChangesNeither d list made.puts) db_is answers.1) (still ends) (answers.0 ∙ db_is) refl
       end_with now (Some n) ends answers holds =
-          let goes : Goes disk Two s (after_job made.puts list s) made.puts mid new done = ends.1 in
+          let goes : TakesRoot disk Two s (after_job made.puts list s) made.puts mid new done = ends.1 in
           changed (subst (λ (d : Db). PassesLast d list made.puts) db_is answers.2) (went goes)
           (db_then now (after_job made.puts list s) holds goes.rests.stores) (ap Some ends.0)
 
       pub write_done : (now : Db) (changes : List Change) (number : Option ℕ) → AreChanges db.installed list changes → JobEnds disk made.puts list s mid new (Ok number)
           → AnswersJob db list made.puts now (Ok number) → HoldsDatabase Two (disk.reads new) now.installed now.oldest now.newest
-          → Ends disk from (to_list list) s old new now (Ok (record { changes = changes; number = number }))
+          → StepEnds disk from (to_list list) s old new now (Ok (record { changes = changes; number = number }))
       write_done now changes number are ends answers holds = record {
         list = list;
         leads = refl;
@@ -188,7 +188,7 @@ module _ {D : Type 0} {disk : DiskModel D} (laws : IsDisk disk) (tells : IsTrue 
 
 -- ---- what the writing asks
 
-module _ {D : Type 0} (disk : DiskModel D) (db : Db) (old mid : D) (ready : IsReady disk db old) (read : HasRead disk old mid (Unit {0})) where
+module _ {D : Type 0} (disk : DiskModel D) (db : Db) (old mid : D) (ready : MayBeginJob disk db old) (read : HasRead disk old mid (Unit {0})) where
   pub can_write : (made : Targets) → AreTargetsOf (disk.reads old) made.puts made.entries → CanWriteJob disk db made.puts made.entries mid
   can_write made over = record {
     flag_clear = ap (λ (x : Tree). is_committed private_directory x) read.same.reads ∙ ready.flag_clear;

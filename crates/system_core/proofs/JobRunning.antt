@@ -39,7 +39,7 @@ use Rattle.rollback_stack.proofs.Keeping.{not_counted}
 use Rattle.job_targets.specs.declared.entry.Entry.{Entry}
 use Rattle.rollback_stack.specs.Entries.{AreEntries, entries_of}
 use Rattle.rollback_stack.specs.Pushing.{is_written, IsPushed}
-use Rattle.system_core.specs.RootWriting.{AreSettled, CanWrite, Goes, RecoversToEither, ShowsEither, is_private_or_target}
+use Rattle.system_core.specs.RootWriting.{AreSettled, CanWrite, TakesRoot, RecoversToEitherSystem, ShowsEither, is_private_or_target}
 use Rattle.system_core.specs.JobWriting.{CanPutJob, IsJobFrom}
 use Rattle.system_core.specs.JobWriting as spec
 use Rattle.system_core.proofs.StoredJob as stored
@@ -133,17 +133,17 @@ module _ {D : Type 0} {disk : DiskModel D} where
 
     -- what is stored stays stored
     module _ (s t : SystemState) (keeps : KeepsSystem disk Two s old mid) where
-      as_before : (image : Tree) → is_committed private_directory image ≡ false → StoresIn Two image s → RecoversToEither s t image
+      as_before : (image : Tree) → is_committed private_directory image ≡ false → StoresIn Two image s → RecoversToEitherSystem s t image
       as_before image no_flag stores = inl (image, at_rest no_flag (λ q out. refl), inr stores)
 
-      kept_images : LeavesOnly disk old mid (RecoversToEither s t)
+      kept_images : LeavesOnly disk old mid (RecoversToEitherSystem s t)
       kept_images = leaves_weaker (λ image both. as_before image (image_clear image both.1) both.0) (leaves_both keeps.images confined.images)
 
       kept_shown : UnlessFailed disk old mid (ShowsEither s t)
       kept_shown none = shows_weaker (λ shown stores q out. inl (stores.managed q out)) keeps.visible
 
       -- no more was done
-      pub stopped_before : (Why : Stop → Type 0) (result : Result (Unit {0}) Stop) → IsErrAnd result Why → Goes disk Two s t puts old mid result
+      pub stopped_before : (Why : Stop → Type 0) (result : Result (Unit {0}) Stop) → IsErrAnd result Why → TakesRoot disk Two s t puts old mid result
       stopped_before Why (Ok x) is = absurd is
       stopped_before Why (Err stop) is = record {
         images = kept_images;
@@ -182,8 +182,8 @@ module _ {D : Type 0} {disk : DiskModel D} where
             (λ hit. target_cases q hit)
             (or_cases (is_reserved q) (is_target all q) is)
 
-        pub joined : (new : D) (result : Result (Unit {0}) Stop) → disk.faults old ≤ disk.faults mid → disk.faults mid ≤ disk.faults new → Goes disk Two s t all mid new result
-            → Goes disk Two s t puts old new result
+        pub joined : (new : D) (result : Result (Unit {0}) Stop) → disk.faults old ≤ disk.faults mid → disk.faults mid ≤ disk.faults new → TakesRoot disk Two s t all mid new result
+            → TakesRoot disk Two s t puts old new result
         joined new result early late goes = record {
           images = leaves_then kept_images goes.images;
           rests = goes.rests;
@@ -206,7 +206,7 @@ next_job puts before db s from = record {
 pub only_pushed : {D : Type 0} {disk : DiskModel D} {puts : List Put} {es : List Entry} {before : List TroveParts} {db : Db} {s : SystemState} {old mid : D} {result : Result (Unit {0}) Stop} → IsTrue disk.tells
     → CanPutJob disk puts es old → Confined disk (Among (is_written db)) old mid
     → ((f : Format) (s : SystemState) → IsNextJob s db.newest (dropped_below db.oldest) → IsTrue disk.tells → ((q : Name) → counts s q ≡ true → disk.unsynced old q ≡ false) → StoresIn f (disk.reads old) s → KeepsSystem disk f s old mid)
-    → StoresIn Two (disk.reads old) s → IsJobFrom s puts before db → (Why : Stop → Type 0) → IsErrAnd result Why → Goes disk Two s (after_job puts db.installed s) puts old mid result
+    → StoresIn Two (disk.reads old) s → IsJobFrom s puts before db → (Why : Stop → Type 0) → IsErrAnd result Why → TakesRoot disk Two s (after_job puts db.installed s) puts old mid result
 only_pushed {puts = puts} {before = before} {db = db} {s = s} {old = old} {mid = mid} {result = result} tells can confined keeps stores from Why is =
     stopped_before db.newest (dropped_below db.oldest) puts old mid can.flag_clear can.synced confined s (after_job puts db.installed s)
     (keeps Two s (next_job puts before db s from) tells (λ q counted. can.synced q) stores) Why result is

@@ -8,11 +8,11 @@ use Rattle.rollback_stack.specs.tree-scan.declared.mark.Mark.{Mark}
 use Rattle.rollback_stack.specs.tree-scan.declared.mark.Mark.TheVariants as mark
 use Rattle.rollback_stack.specs.tree-scan.Marks.{fingerprint, is_nothing}
 use Rattle.rollback_stack.specs.Entries.{entry_of}
-use Rattle.system_core.specs.JobWriting.{IsSomething}
+use Rattle.system_core.specs.JobWriting.{StandsBeforeOrAfter}
 use Rattle.system_core.specs.Something.{is_some_by, is_something}
 
 abbrev pub IsSomeEntry : Entry → Type 0
-IsSomeEntry e = IsSomething (entry_of e)
+IsSomeEntry e = StandsBeforeOrAfter (entry_of e)
 
 by_want : (w : Want) (m : Mark) → is_some_by w m ≡ true → fingerprint (node_of w) ≡ mark.Nothing → m ≡ mark.Nothing → ⊥
 by_want want.Nothing m is was now = absurd (cc (is, ap is_nothing now))

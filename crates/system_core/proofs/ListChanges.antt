@@ -25,7 +25,7 @@ use Rattle.update_job.specs.declared.comparing.Change.{Change}
 use Rattle.update_job.specs.declared.comparing.Change.TheVariants.{Installed, Updated, Erased}
 use Rattle.update_job.specs.Changes.{AreChanges, IsChange, by_change, name_of}
 use Rattle.update_job.proofs.Noting.{nameless_from}
-use Rattle.system_core.specs.Changing.{names_of, troves_of}
+use Rattle.system_core.specs.Changing.{names_changed, troves_named}
 use Rattle.local_db.proofs.cny-base.ByteLists.{bytes_mean}
 use Rattle.local_db.proofs.trove-stream.Names.{found_first, found_other, is_named, is_there}
 use Rattle.update_job.specs.trove-stream.Either.{or_else}
@@ -35,15 +35,15 @@ use Rattle.local_db.proofs.cny-base.Bools.{or_right as or_true}
 -- ---- one more of them
 
 pub names_more : (changes : List Change) (i : ℕ) (x : Change) (name : List ℕ) → i < length changes → x ≡ get_or changes i x → name ≡ name_of x
-    → names_of (take i changes) ++ name ∷ [] ≡ names_of (take (i + 1) changes)
+    → names_changed (take i changes) ++ name ∷ [] ≡ names_changed (take (i + 1) changes)
 names_more changes i x name within is named =
-    ap (λ (n : List ℕ). names_of (take i changes) ++ n ∷ []) (named ∙ ap name_of is) ∙ sym (map_more name_of changes i x within)
+    ap (λ (n : List ℕ). names_changed (take i changes) ++ n ∷ []) (named ∙ ap name_of is) ∙ sym (map_more name_of changes i x within)
 
 pub troves_more : (list : List TroveParts) (names : List (List ℕ)) (i : ℕ) (x : List ℕ) → i < length names → x ≡ get_or names i x
-    → troves_of list (take i names) ++ option_to_list (trove_of x list) ≡ troves_of list (take (i + 1) names)
+    → troves_named list (take i names) ++ option_to_list (trove_of x list) ≡ troves_named list (take (i + 1) names)
 troves_more list names i x within is =
     flat_map_more (λ (name : List ℕ). option_to_list (trove_of name list)) [] (take i names) x
-    ∙ ap (troves_of list) (sym (take_more names i x within ∙ ap (λ (y : List ℕ). take i names ++ y ∷ []) (sym is)))
+    ∙ ap (troves_named list) (sym (take_more names i x within ∙ ap (λ (y : List ℕ). take i names ++ y ∷ []) (sym is)))
 
 -- ---- what the list has of some names
 
@@ -72,24 +72,24 @@ module _ (troves : List ℕ → Option TroveParts) (named : (name : List ℕ) (t
 -- ---- the names of changes
 
 above : (name : List ℕ) (changes : List Change) → AllByRecursion (λ (c : Change). slice_cmp nat_cmp name (name_of c) ≡ Less) changes
-    → AllByRecursion (λ (n : List ℕ). slice_cmp nat_cmp name n ≡ Less) (names_of changes)
+    → AllByRecursion (λ (n : List ℕ). slice_cmp nat_cmp name n ≡ Less) (names_changed changes)
 above name [] all = tt
 above name (c ∷ changes) all = (all.0, above name changes all.1)
 
-pub names_rise : (changes : List Change) → IsStrictlySortedBy by_change changes → IsStrictlySortedBy (slice_cmp nat_cmp) (names_of changes)
+pub names_rise : (changes : List Change) → IsStrictlySortedBy by_change changes → IsStrictlySortedBy (slice_cmp nat_cmp) (names_changed changes)
 unfolding IsStrictlySortedBy
 names_rise [] sorted = tt
 names_rise (c ∷ changes) sorted = (above (name_of c) changes sorted.0, names_rise changes sorted.1)
 
-any_named : (changes : List Change) (name : List ℕ) (c : Change) → Contains changes c → name_of c ≡ name → list_any (bytes_eq name) (names_of changes) ≡ true
+any_named : (changes : List Change) (name : List ℕ) (c : Change) → Contains changes c → name_of c ≡ name → list_any (bytes_eq name) (names_changed changes) ≡ true
 any_named [] name c among named = absurd (nothing_in c among)
 any_named (d ∷ changes) name c among named = ⊎_elim
-    (λ here. ap (λ (b : Bool). b || list_any (bytes_eq name) (names_of changes)) ((bytes_decides name (name_of d)).1 (sym named ∙ ap name_of (sym here))))
-    (λ later. or_true (bytes_eq name (name_of d)) (list_any (bytes_eq name) (names_of changes)) (any_named changes name c later named))
+    (λ here. ap (λ (b : Bool). b || list_any (bytes_eq name) (names_changed changes)) ((bytes_decides name (name_of d)).1 (sym named ∙ ap name_of (sym here))))
+    (λ later. or_true (bytes_eq name (name_of d)) (list_any (bytes_eq name) (names_changed changes)) (any_named changes name c later named))
     (first_or_later d c changes among)
 
-pub come_rises : (before list : List TroveParts) (changes : List Change) → AreChanges before list changes → IsRising (troves_of list (names_of changes))
-come_rises before list changes are = listed_rises (λ (name : List ℕ). trove_of name list) (is_named list) (names_of changes) (names_rise changes are.rising)
+pub come_rises : (before list : List TroveParts) (changes : List Change) → AreChanges before list changes → IsRising (troves_named list (names_changed changes))
+come_rises before list changes are = listed_rises (λ (name : List ℕ). trove_of name list) (is_named list) (names_changed changes) (names_rise changes are.rising)
 
 -- ---- the one list to which the changes lead
 
@@ -102,7 +102,7 @@ abbrev pub AreDistinct : Type 0
 AreDistinct = (one other : Encoding) (a b : TroveParts) → IsTrove a → IsTrove b → stream_bytes one a ≡ stream_bytes other b → a ≡ b
 
 module _ (distinct : AreDistinct) (before list : List TroveParts) (changes : List Change) (are : AreChanges before list changes) (olds : All IsTrove before) (news : All IsTrove list) where
-  module _ (name : List ℕ) (other : list_any (bytes_eq name) (names_of changes) ≡ false) where
+  module _ (name : List ℕ) (other : list_any (bytes_eq name) (names_changed changes) ≡ false) where
     never : (c : Change) → name_of c ≡ name → IsChange before list c → ⊥
     never c named is = true≢false (sym (any_named changes name c (are.all c is) named) ∙ other)
 
@@ -140,24 +140,24 @@ module _ (distinct : AreDistinct) (before list : List TroveParts) (changes : Lis
     stays None (Some u) is was = absurd (erased u is was)
     stays (Some t) (Some u) is was = ap (λ (v : TroveParts). Some v) (updated t u is was (bytes_eq (trove_bytes u) (trove_bytes t)) refl)
 
-  after : (name : List ℕ) (b : Bool) → list_any (bytes_eq name) (names_of changes) ≡ b
+  after : (name : List ℕ) (b : Bool) → list_any (bytes_eq name) (names_changed changes) ≡ b
       → trove_of name list ≡ or_else (cond b (trove_of name list) None) (cond b None (trove_of name before))
   after name true is = or_none (trove_of name list)
   after name false is = stays name is (trove_of name list) (trove_of name before) refl refl
 
-  each_name : (name : List ℕ) → trove_of name list ≡ trove_after (names_of changes) (troves_of list (names_of changes)) before name
+  each_name : (name : List ℕ) → trove_of name list ≡ trove_after (names_changed changes) (troves_named list (names_changed changes)) before name
   each_name name =
-      let any = list_any (bytes_eq name) (names_of changes) in
+      let any = list_any (bytes_eq name) (names_changed changes) in
       after name any refl
-      ∙ ap (λ (o : Option TroveParts). or_else o (cond any None (trove_of name before))) (sym (found_among (λ (n : List ℕ). trove_of n list) (is_named list) (names_of changes) name))
+      ∙ ap (λ (o : Option TroveParts). or_else o (cond any None (trove_of name before))) (sym (found_among (λ (n : List ℕ). trove_of n list) (is_named list) (names_changed changes) name))
 
-  changed_list : IsRising list → IsChanged (names_of changes) (troves_of list (names_of changes)) before list
+  changed_list : IsRising list → IsChanged (names_changed changes) (troves_named list (names_changed changes)) before list
   changed_list rises = record { rising = rises; each = each_name }
 
-  pub changed_so : IsRising list → (gone : List (List ℕ)) (come old : List TroveParts) → gone ≡ names_of changes → come ≡ troves_of list (names_of changes) → old ≡ before → IsChanged gone come old list
+  pub changed_so : IsRising list → (gone : List (List ℕ)) (come old : List TroveParts) → gone ≡ names_changed changes → come ≡ troves_named list (names_changed changes) → old ≡ before → IsChanged gone come old list
   changed_so rises gone come old gone_is come_is old_is =
       subst (λ (l : List TroveParts). IsChanged gone come l list) (sym old_is)
-      (subst (λ (l : List TroveParts). IsChanged gone l before list) (sym come_is) (subst (λ (l : List (List ℕ)). IsChanged l (troves_of list (names_of changes)) before list) (sym gone_is) (changed_list rises)))
+      (subst (λ (l : List TroveParts). IsChanged gone l before list) (sym come_is) (subst (λ (l : List (List ℕ)). IsChanged l (troves_named list (names_changed changes)) before list) (sym gone_is) (changed_list rises)))
 
 -- ---- what is answered of a changed list
 

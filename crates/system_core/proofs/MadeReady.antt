@@ -19,7 +19,7 @@ use Rattle.local_db.specs.Names.{database}
 use Rattle.rollback_stack.specs.Migrated.{is_up_to_date}
 use Rattle.system_core.proofs.FixedDirsLaws.{dirs_of, dirs_recovered}
 use Rattle.system_core.specs.Migrating.{HasLoaded, IsLoadingStop, Loads}
-use Rattle.system_core.specs.Opening.{IsOpen, IsOpeningStop, Opens}
+use Rattle.system_core.specs.Opening.{HasRecoveredRoot, IsOpeningStop, RecoversRoot}
 use Rattle.system_core.specs.Ready.{HasReadied, IsReadyStop, Readies}
 use Rattle.system_core.proofs.Loaded.{brought_outer}
 use Rattle.system_core.proofs.Rewritten.{rest_read}
@@ -36,7 +36,7 @@ opening_stop disk old mid (stop.Damaged path) is = λ tells. inl (is tells)
 opening_stop disk old mid stop.FarFailed is = is
 opening_stop disk old mid (stop.FarDamaged path) is = is
 
-pub not_opened : {D : Type 0} (disk : DiskModel D) (old mid : D) (e : Stop) → Opens disk old mid (Err e) → Readies disk old mid (Err e)
+pub not_opened : {D : Type 0} (disk : DiskModel D) (old mid : D) (e : Stop) → RecoversRoot disk old mid (Err e) → Readies disk old mid (Err e)
 not_opened disk old mid e opens = record {
   later = opens.later;
   images = λ tells. leaves_weaker (λ image is. ⊎_elim (λ entry. inl entry) (λ all. inr (λ x to. inl (all x to))) is) (opens.images tells);
@@ -53,9 +53,9 @@ not_opened disk old mid e opens = record {
 
 -- ---- it was opened
 
-module _ {D : Type 0} {disk : DiskModel D} (laws : IsDisk disk) (old mid new : D) (opens : Opens disk old mid (Ok tt)) where
+module _ {D : Type 0} {disk : DiskModel D} (laws : IsDisk disk) (old mid new : D) (opens : RecoversRoot disk old mid (Ok tt)) where
   module _ (tells : IsTrue disk.tells) where
-    opened : IsOpen disk old mid
+    opened : HasRecoveredRoot disk old mid
     opened = opens.opened tells
 
     pinned : (y : Tree) → ((q : Name) → is_reserved q ≡ false → get y q ≡ get (disk.reads mid) q) → is_dir_at y (parent private_directory) ≡ true

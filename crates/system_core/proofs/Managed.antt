@@ -29,7 +29,7 @@ use Rattle.conflict_plan.proofs.Order.{child_parent}
 use Rattle.conflict_plan.proofs.Remaining.{some_stands}
 use Rattle.job_targets.proofs.Changing.{own_plans}
 use Rattle.local_db.proofs.Writes.{not_both}
-use Rattle.system_core.specs.Lists.{AreAllowed}
+use Rattle.system_core.specs.Lists.{AllPathsAllowed}
 use Rattle.system_core.proofs.Outer.{parent_inner}
 use Rattle.system_core.proofs.Recorded.{IsRecordable, list_recordable}
 use Rattle.update_job.specs.cny-base.Answer.{IsAnswer}
@@ -38,7 +38,7 @@ use Rattle.local_db.proofs.Putting.{parent_outer}
 -- a list of troves none of which records a path that no trove may record
 pub record KeepsOut (list : List TroveParts) : Type 0 where
   pub troves : All IsTrove list
-  pub allowed : AreAllowed list
+  pub allowed : AllPathsAllowed list
 
 -- the tree of a root, and that of the system that it stores
 pub record IsManaged (x t : Tree) : Type 0 where

@@ -35,7 +35,7 @@ use Rattle.rollback_stack.specs.JobReading.{HoldsRecord, HoldsRecords}
 use Rattle.system_core.specs.RootWriting.{CanWrite}
 use Rattle.rollback_stack.specs.Numbers.{job_count}
 use Rattle.rollback_stack.specs.Migrated.{AreMigration, AreRewritten, IsDamagedFile, is_up_to_date}
-use Rattle.system_core.specs.Opening.{IsAtRest}
+use Rattle.system_core.specs.Opening.{IsSettledRoot}
 use Rattle.system_core.proofs.Held.{OneDatabase}
 use Rattle.tree_journal.proofs.WriteSets.{target_at, with_targets_outside}
 use Rattle.local_db.proofs.cny-base.Lists.{contains_cases, contains_first, contains_rest, nothing_in}
@@ -188,7 +188,7 @@ module _ (x : Tree) (puts : List Put) (old : is_up_to_date (get x database) ≡ 
       managed_formed = well;
     }
 
-    pub can_write : {D : Type 0} (disk : DiskModel D) (d mid : D) → IsAtRest disk d → disk.reads mid ≡ disk.reads d → ((q : Name) → disk.unsynced mid q ≡ disk.unsynced d q) → x ≡ disk.reads d → CanWrite disk puts mid
+    pub can_write : {D : Type 0} (disk : DiskModel D) (d mid : D) → IsSettledRoot disk d → disk.reads mid ≡ disk.reads d → ((q : Name) → disk.unsynced mid q ≡ disk.unsynced d q) → x ≡ disk.reads d → CanWrite disk puts mid
     can_write disk d mid rest same settled here = record {
       flag_clear = subst (λ (y : Tree). is_committed private_directory y ≡ false) (sym same) rest.flag_clear;
       flag_synced = settled (gate private_directory) ∙ rest.synced (gate private_directory);

@@ -20,13 +20,13 @@ use Rattle.local_db.specs.Stores.{RecoversToSystem, StoresIn}
 use Rattle.local_db.specs.SystemState.{SystemState, is_listed}
 use Rattle.local_db.specs.declared.format.Format.TheVariants.{Two}
 use Rattle.local_db.proofs.Together.{at_rest_stores}
-use Rattle.system_core.specs.RootWriting.{Goes, RestsAt, ShowsEither}
-use Rattle.system_core.specs.Rollback.{IsReadyWith, Moves}
+use Rattle.system_core.specs.RootWriting.{TakesRoot, RestsInFormat, ShowsEither}
+use Rattle.system_core.specs.Rollback.{MayRollBack, MovesSystem}
 
 recovers : (x : Tree) (s : SystemState) → is_committed private_directory x ≡ false → StoresIn Two x s → RecoversToSystem x s
 recovers x s clear stores = (at_rest_stores x s clear).1 (inr stores)
 
-module _ {D : Type 0} (disk : DiskModel D) (laws : IsDisk disk) (s : SystemState) (db_old : Db) (old : D) (ready : IsReadyWith disk db_old old) (stores : StoresIn Two (disk.reads old) s) where
+module _ {D : Type 0} (disk : DiskModel D) (laws : IsDisk disk) (s : SystemState) (db_old : Db) (old : D) (ready : MayRollBack disk db_old old) (stores : StoresIn Two (disk.reads old) s) where
   now : RecoversToSystem (disk.reads old) s
   now = recovers (disk.reads old) s ready.flag_clear stores
 
@@ -43,7 +43,7 @@ module _ {D : Type 0} (disk : DiskModel D) (laws : IsDisk disk) (s : SystemState
 
     module _ (t : SystemState) (paths : List Name) where
       -- nothing was written
-      pub still : (r : Result ℕ Stop) → OnOk r (RestsAt disk Two t mid) → Moves disk s t paths old mid r
+      pub still : (r : Result ℕ Stop) → OnOk r (RestsInFormat disk Two t mid) → MovesSystem disk s t paths old mid r
       still r rests = record {
         images = leaves_weaker (λ image h. inl h) read_images;
         reads = inl (subst (λ (y : Tree). RecoversToSystem y s) (sym run.same.reads) now);
@@ -53,9 +53,9 @@ module _ {D : Type 0} (disk : DiskModel D) (laws : IsDisk disk) (s : SystemState
       }
 
       -- the write set was put, or was to be put
-      pub moved : (puts : List Put) (new : D) (w : Result (Unit {0}) Stop) → Goes disk Two s t puts mid new w → disk.faults old ≤ disk.faults mid → disk.faults mid ≤ disk.faults new
+      pub moved : (puts : List Put) (new : D) (w : Result (Unit {0}) Stop) → TakesRoot disk Two s t puts mid new w → disk.faults old ≤ disk.faults mid → disk.faults mid ≤ disk.faults new
           → ((q : Name) → is_reserved q ≡ false → is_listed paths q ≡ false → is_target puts q ≡ false)
-          → (r : Result ℕ Stop) → OnOk r (RestsAt disk Two t new) → Moves disk s t paths old new r
+          → (r : Result ℕ Stop) → OnOk r (RestsInFormat disk Two t new) → MovesSystem disk s t paths old new r
       moved puts new w goes early late outside r rests = record {
         images = leaves_then (leaves_weaker (λ image h. inl h) read_images) goes.images;
         reads = goes.reads;

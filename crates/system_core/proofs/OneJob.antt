@@ -18,7 +18,7 @@ use Rattle.local_db.specs.Steps.{after_rollbacks}
 use Rattle.local_db.proofs.Sorted.{listed_in}
 use Rattle.system_core.specs.Restoring.{IsException, IsLeftAlone, IsPutInto, IsRestored, IsUnedited, Restores}
 use Rattle.system_core.specs.RestoringAll.{AreRestored, AreUnedited, IsExceptionTo, RestoresTo}
-use Rattle.system_core.specs.Rollback.{HasCause}
+use Rattle.system_core.specs.Rollback.{HasRollbackCause}
 use Rattle.system_core.specs.Several.{HasJob, HasTakenBackTo, IsRefusalKind, IsRefusalKindTo, OfTurn, jobs_to}
 use Rattle.system_core.proofs.Counting.{numbers_apart}
 use Rattle.system_core.proofs.Held.{OneDatabase, one_held}
@@ -122,7 +122,7 @@ newest_kind db rules (Edited path) is = is
 newest_kind db rules (Parent path) is = is
 newest_kind db rules _ is = absurd is
 
-pub newest_cause : (db : Db) → IsDatabase Two db.installed db.oldest db.newest → (rose : Type 0) (e : Stop) → HasCause (IsRefusalKindTo db db.newest) rose e → HasCause (IsRefusalKind db) rose e
+pub newest_cause : (db : Db) → IsDatabase Two db.installed db.oldest db.newest → (rose : Type 0) (e : Stop) → HasRollbackCause (IsRefusalKindTo db db.newest) rose e → HasRollbackCause (IsRefusalKind db) rose e
 newest_cause db rules rose stop.Failed is = is
 newest_cause db rules rose stop.Memory is = tt
 newest_cause db rules rose (stop.Refused why) is = newest_kind db rules why is

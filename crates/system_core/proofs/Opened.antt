@@ -23,7 +23,7 @@ use Rattle.tree_journal.specs.Recovery.{is_committed, RecoversTo, at_rest, by_lo
 use Rattle.tree_journal.specs.Recovering.{IsVisibleIn}
 use Rattle.tree_journal.specs.Staging.{has_content, outcome}
 use Rattle.system_core.specs.FixedDirs.{RefusesPath, fixed_dirs}
-use Rattle.system_core.specs.Opening.{IsOpen, IsOpeningStop, Opens}
+use Rattle.system_core.specs.Opening.{HasRecoveredRoot, IsOpeningStop, RecoversRoot}
 use Rattle.tree_journal.specs.Recovered.{IsKept, RecoversAt, RecoversToNone, RecoveryStops, RefusesLog}
 
 -- ---- a root that recovers to some tree has no log that can't be put, and none that is damaged
@@ -66,7 +66,7 @@ module _ {D : Type 0} {disk : DiskModel D} (laws : IsDisk disk) where
 
   -- ---- the root was only read
 
-  pub opens_read : (old new : D) (e : Stop) → disk.faults old ≤ disk.faults new → (IsTrue disk.tells → HasRead disk old new (Unit {0})) → IsOpeningStop disk old new e → Opens disk old new (Err e)
+  pub opens_read : (old new : D) (e : Stop) → disk.faults old ≤ disk.faults new → (IsTrue disk.tells → HasRead disk old new (Unit {0})) → IsOpeningStop disk old new e → RecoversRoot disk old new (Err e)
   opens_read old new e later read stops = record {
     later = later;
     images = λ told. read_leaves old new (read told);
@@ -88,7 +88,7 @@ module _ {D : Type 0} {disk : DiskModel D} (laws : IsDisk disk) where
   found_stops told expected stop.FarFailed old new is same read found of_path = absurd found
   found_stops told expected (stop.FarDamaged path) old new is same read found of_path = absurd found
 
-  pub tests_stopped : (old new : D) (e : Stop) → Tests disk (λ (d : Unit {0}). d) fixed_dirs old new (Err e) → RefusesPath e → Opens disk old new (Err e)
+  pub tests_stopped : (old new : D) (e : Stop) → Tests disk (λ (d : Unit {0}). d) fixed_dirs old new (Err e) → RefusesPath e → RecoversRoot disk old new (Err e)
   tests_stopped old new e checks of_path = opens_read old new e checks.later checks.same (found_stops disk.tells (fixed_dirs (disk.reads old)) e old new refl refl checks.same checks.found of_path)
 
   -- ---- it was recovered
@@ -107,7 +107,7 @@ module _ {D : Type 0} {disk : DiskModel D} (laws : IsDisk disk) where
       by_log set log.puts log.holds log.stand log.can (λ p out. sym (stores p out))
   recovers_to_new mid new recovered kept false clear = at_rest clear (λ p out. ap (λ (t : Tree). get t p) (sym (kept.same clear)))
 
-  pub is_open : (old mid new : D) → HasRead disk old mid (Unit {0}) → fixed_dirs (disk.reads old) ≡ Ok tt → IsRecovered disk private_directory mid new → IsKept private_directory (disk.reads mid) (disk.reads new) → IsOpen disk old new
+  pub is_open : (old mid new : D) → HasRead disk old mid (Unit {0}) → fixed_dirs (disk.reads old) ≡ Ok tt → IsRecovered disk private_directory mid new → IsKept private_directory (disk.reads mid) (disk.reads new) → HasRecoveredRoot disk old new
   is_open old mid new read fixed recovered kept = record {
     rests = record { flag_clear = recovered.flag_clear; synced = recovered.synced };
     fixed = fixed;
@@ -121,7 +121,7 @@ module _ {D : Type 0} {disk : DiskModel D} (laws : IsDisk disk) where
     untouched_on : IsTrue disk.tells → RecoversToNone private_directory (disk.reads old) → Confined disk (Among no_name) old new
     untouched_on told none = confined_then (confined_read laws (Among no_name) (read told)) (recovers.untouched told (subst (RecoversToNone private_directory) (sym (read told).same.reads) none))
 
-    opens_recovered : (IsTrue disk.tells → OnOk s (IsOpen disk old new)) → IfErr s (IsOpeningStop disk old new) → Opens disk old new s
+    opens_recovered : (IsTrue disk.tells → OnOk s (HasRecoveredRoot disk old new)) → IfErr s (IsOpeningStop disk old new) → RecoversRoot disk old new s
     opens_recovered opened stops = record {
       later = omega (arith, later, recovers.later);
       images = λ told. leaves_then (read_leaves old mid (read told)) (leaves_weaker (as_at old mid (read told)) (recovers.images told));
@@ -151,7 +151,7 @@ module _ {D : Type 0} {disk : DiskModel D} (laws : IsDisk disk) where
     stops_on stop.FarFailed stops = absurd stops
     stops_on (stop.FarDamaged path) stops = absurd stops
 
-  pub checked_opens : (old mid new : D) (s : Result (Unit {0}) Stop) → Tests disk (λ (d : Unit {0}). d) fixed_dirs old mid (Ok tt) → RecoversAt disk private_directory mid new s → Opens disk old new s
+  pub checked_opens : (old mid new : D) (s : Result (Unit {0}) Stop) → Tests disk (λ (d : Unit {0}). d) fixed_dirs old mid (Ok tt) → RecoversAt disk private_directory mid new s → RecoversRoot disk old new s
   checked_opens old mid new (Ok x) checks recovers = opens_recovered old mid new checks.later checks.same checks.found (Ok x) recovers
       (λ told. is_open old mid new (checks.same told) (checks.found told) (recovers.recovered told) (recovers.kept told)) tt
   checked_opens old mid new (Err e) checks recovers = opens_recovered old mid new checks.later checks.same checks.found (Err e) recovers

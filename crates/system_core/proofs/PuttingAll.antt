@@ -40,7 +40,7 @@ use Rattle.local_db.specs.declared.db.Db.{Db}
 use Rattle.system_core.specs.RootWriting.{CanWrite}
 use Rattle.rollback_stack.specs.Inverse.{IsOldWant, no_records}
 use Rattle.system_core.specs.Inserting.{put_of_db}
-use Rattle.system_core.specs.Rollback.{IsReadyWith}
+use Rattle.system_core.specs.Rollback.{MayRollBack}
 use Rattle.system_core.specs.Several.{IsStepTo}
 use Rattle.system_core.proofs.Putting.{may_be, no_database_dir, not_none, stands, there}
 use Rattle.tree_journal.proofs.WriteSets.{target_at, with_targets_outside}
@@ -242,7 +242,7 @@ module _ (x : Tree) (db : Db) (number : ℕ) (step : Back) (is : IsStepTo x db n
       (own_all (λ (p : Put). is_staged p.want ≡ false) refl (λ k after before es held. refl))
 
   -- the root may write it
-  pub can_write_to : {D : Type 0} (disk : DiskModel D) (old mid : D) → IsReadyWith disk db old → disk.reads mid ≡ disk.reads old → ((q : Name) → disk.unsynced mid q ≡ disk.unsynced old q) → x ≡ disk.reads old
+  pub can_write_to : {D : Type 0} (disk : DiskModel D) (old mid : D) → MayRollBack disk db old → disk.reads mid ≡ disk.reads old → ((q : Name) → disk.unsynced mid q ≡ disk.unsynced old q) → x ≡ disk.reads old
       → CanWrite disk step.puts mid
   can_write_to disk old mid ready same settled here = record {
     flag_clear = subst (λ (y : Tree). is_committed private_directory y ≡ false) (sym same) ready.flag_clear;

@@ -18,7 +18,7 @@ use Rattle.local_db.specs.declared.format.Format.TheVariants.{Two}
 use Rattle.local_db.specs.SystemState.{SystemState}
 use Rattle.local_db.specs.Stores.{RecoversToSystem, StoresIn}
 use Rattle.local_db.proofs.Together.{at_rest_stores}
-use Rattle.system_core.specs.RootWriting.{Goes, ShowsEither, is_private_or_target}
+use Rattle.system_core.specs.RootWriting.{TakesRoot, ShowsEither, is_private_or_target}
 
 module _ {D : Type 0} {disk : DiskModel D} where
   module _ (laws : IsDisk disk) (s : SystemState) {old : D} (clear : is_committed private_directory (disk.reads old) ≡ false) (synced : IsSynced disk old) (stores : StoresIn Two (disk.reads old) s) where
@@ -38,7 +38,7 @@ module _ {D : Type 0} {disk : DiskModel D} where
 
       -- reading in front changes nothing of it
       pub goes_behind : (g : Format) (t : SystemState) (puts : List Put) {new : D} {r : Result (Unit {0}) Stop} → disk.faults old ≤ disk.faults mid → disk.faults mid ≤ disk.faults new
-          → Goes disk g s t puts mid new r → Goes disk g s t puts old new r
+          → TakesRoot disk g s t puts mid new r → TakesRoot disk g s t puts old new r
       goes_behind g t puts early late goes = record {
         images = leaves_then (leaves_weaker (λ image h. inl h) read_images) goes.images;
         rests = goes.rests;

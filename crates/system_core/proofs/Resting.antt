@@ -32,7 +32,7 @@ use Rattle.tree_journal.proofs.tree-disk.Children.{or_none as neither}
 use Rattle.system_core.specs.FixedDirs.{fixed_dirs}
 use Rattle.system_core.specs.Inserting.{put_of_db}
 use Rattle.system_core.specs.JobWriting.{CanPutJob, database_write}
-use Rattle.system_core.specs.RootReady.{IsReady}
+use Rattle.system_core.specs.RootReady.{MayBeginJob}
 use Rattle.system_core.specs.RootWriting.{IsPut}
 use Rattle.system_core.proofs.JobRunning.{outer_stays}
 use Rattle.system_core.proofs.Sameness.{database_not_own, not_own}
@@ -81,7 +81,7 @@ module _ {D : Type 0} {disk : DiskModel D} (puts : List Put) (before : List Trov
   same : (q : Name) → is_reserved q ≡ false → get (disk.reads mid) q ≡ get (disk.reads old) q
   same q out = outer_stays db.newest (dropped_below db.oldest) puts old mid can.flag_clear can.synced confined q out
 
-  pub put_ready : (r : Result (Unit {0}) Stop) → OnOk r (IsPut disk all mid new) → OnOk r (IsReady disk db new)
+  pub put_ready : (r : Result (Unit {0}) Stop) → OnOk r (IsPut disk all mid new) → OnOk r (MayBeginJob disk db new)
   put_ready (Ok done) put = record {
     flag_clear = put.flag_clear;
     synced = put.synced;

@@ -13,7 +13,7 @@ use Rattle.local_db.proofs.Images.{kept, restored}
 use Rattle.local_db.proofs.Sorted.{in_listed, listed_in}
 use Rattle.local_db.proofs.Writes.{not_both}
 use Rattle.system_core.specs.Restoring.{IsLeftAlone, IsPutInto, IsUnedited}
-use Rattle.system_core.specs.Tests.{IsEdited, IsFirstEdited, IsFirstOrphan}
+use Rattle.system_core.specs.Tests.{IsEditedSince, IsFirstEditedSince, IsFirstWithoutDirectory}
 use Rattle.system_core.proofs.Putting.{stands}
 use Rattle.conflict_plan.proofs.Sighted.{stands_dir as dir_told}
 
@@ -29,7 +29,7 @@ module _ (o : StackItem) (item : IsStackItem o) (tree : Tree) (unedited : IsUned
   as_before : (q : Name) → is_listed o.paths q ≡ false → get o.before q ≡ get o.after q
   as_before q other = item.same q other
 
-  pub put_into : (path : Name) → IsFirstEdited o tree path → IsPutInto o tree path
+  pub put_into : (path : Name) → IsFirstEditedSince o tree path → IsPutInto o tree path
   put_into path h = ⊎_elim
       (λ other. absurd (other (mark_at path own)))
       (λ foreign. record {
@@ -49,7 +49,7 @@ module _ (o : StackItem) (item : IsStackItem o) (tree : Tree) (unedited : IsUned
       own = in_listed o.paths path (subst (λ (l : List Name). Contains l path) (sym h.split) (Contains-append_right h.front (path ∷ h.rest) path (0, omega arith, refl)))
 
   module _ (well : WellFormed tree) where
-    pub left_alone : (path : Name) → IsFirstOrphan o tree path → IsLeftAlone o tree path
+    pub left_alone : (path : Name) → IsFirstWithoutDirectory o tree path → IsLeftAlone o tree path
     left_alone path h = record {
       own = own;
       stood = stood;
@@ -67,7 +67,7 @@ module _ (o : StackItem) (item : IsStackItem o) (tree : Tree) (unedited : IsUned
         -- the directory of a path that isn't the job's would be one that the job made
         never : is_listed o.paths path ≡ false → ⊥
         never out = ⊎_elim
-            (λ mine. All-contains (λ (p : Name). IsEdited o tree p → ⊥) o.paths (parent path) h.unedited (listed_in o.paths (parent path) mine)
+            (λ mine. All-contains (λ (p : Name). IsEditedSince o tree p → ⊥) o.paths (parent path) h.unedited (listed_in o.paths (parent path) mine)
             (inr (
               ap is_dir (sym (restored o item tree (parent path) mine)) ∙ h.orphan.1,
               sym (dir_told (get o.after (parent path))) ∙ ap marks.is_dir (sym (mark_at (parent path) mine)) ∙ dir_told (get tree (parent path)) ∙ dir_there out,

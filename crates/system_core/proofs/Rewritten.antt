@@ -26,10 +26,10 @@ use Rattle.tree_journal.specs.Visible.{IsVisible, ShowsNode, differ_in_kind}
 use Rattle.local_db.specs.Names.{database}
 use Rattle.rollback_stack.specs.JobReading.{IsReadStop}
 use Rattle.rollback_stack.proofs.Later.{read_as, read_stop_then}
-use Rattle.system_core.specs.RootWriting.{CanWrite, IsPut, Writes}
+use Rattle.system_core.specs.RootWriting.{CanWrite, IsPut, PutsOnRoot}
 use Rattle.rollback_stack.specs.Migrated.{AreMigration, IsDamagedFile, is_up_to_date}
 use Rattle.system_core.specs.Migrating.{HasMigrated, IsBrought, IsMigratingStop, Migrates, RecoversInAFormat}
-use Rattle.system_core.specs.Opening.{IsAtRest}
+use Rattle.system_core.specs.Opening.{IsSettledRoot}
 use Rattle.system_core.proofs.Migration.{can_write, not_outer}
 use Rattle.system_core.proofs.Opened.{read_shown}
 use Rattle.system_core.proofs.Sameness.{not_own, same_recovers}
@@ -39,13 +39,13 @@ use Rattle.tree_journal.proofs.WriteSets.{with_targets_outside}
 
 module _ {D : Type 0} {disk : DiskModel D} where
   -- a crash leaves just what it reads
-  pub rest_image : (d : D) → IsAtRest disk d → (image : Tree) → IsImageOf disk d image → RecoversTo private_directory image (disk.reads d)
+  pub rest_image : (d : D) → IsSettledRoot disk d → (image : Tree) → IsImageOf disk d image → RecoversTo private_directory image (disk.reads d)
   rest_image d rests image crash = at_rest (ap is_flag (crash.synced (gate private_directory) (rests.synced (gate private_directory))) ∙ rests.flag_clear) (λ q out. crash.synced q (rests.synced q))
 
-  pub rest_reads : (d : D) → IsAtRest disk d → RecoversTo private_directory (disk.reads d) (disk.reads d)
+  pub rest_reads : (d : D) → IsSettledRoot disk d → RecoversTo private_directory (disk.reads d) (disk.reads d)
   rest_reads d rests = at_rest rests.flag_clear (λ q out. refl)
 
-  pub rest_read : {A : Type 0} (old new : D) → HasRead disk old new A → IsAtRest disk old → IsAtRest disk new
+  pub rest_read : {A : Type 0} (old new : D) → HasRead disk old new A → IsSettledRoot disk old → IsSettledRoot disk new
   rest_read old new read rests = record {
     flag_clear = ap (is_committed private_directory) read.same.reads ∙ rests.flag_clear;
     synced = λ q. read.same.unsynced q ∙ rests.synced q;
@@ -53,7 +53,7 @@ module _ {D : Type 0} {disk : DiskModel D} where
 
   module _ (laws : IsDisk disk) where
     -- while it is only read
-    pub rest_leaves : {A : Type 0} (P : Tree → Type 0) (old new : D) → HasRead disk old new A → IsAtRest disk old → ((image : Tree) → RecoversTo private_directory image (disk.reads old) → P image) → LeavesOnly disk old new P
+    pub rest_leaves : {A : Type 0} (P : Tree → Type 0) (old new : D) → HasRead disk old new A → IsSettledRoot disk old → ((image : Tree) → RecoversTo private_directory image (disk.reads old) → P image) → LeavesOnly disk old new P
     rest_leaves P old new read rests so = leaves_step laws read.time
         (λ image is. so image (rest_image old rests image is))
         (λ image is. so image (rest_image old rests image (same_images read.same image is)))
@@ -84,7 +84,7 @@ migrated_stops disk old mid e is read =
     let rose = Rose (disk.faults old) (disk.faults mid) in
     read_stop_then disk.tells (IsDamagedFile (disk.reads old)) (λ path. HasRead disk old mid (IsDamagedFile (disk.reads old) path)) rose rose e (λ tells path damaged. read_as (read tells) damaged) (λ r. r) is
 
-module _ {D : Type 0} {disk : DiskModel D} (laws : IsDisk disk) (old mid : D) (rests : IsAtRest disk old) where
+module _ {D : Type 0} {disk : DiskModel D} (laws : IsDisk disk) (old mid : D) (rests : IsSettledRoot disk old) where
   module _ (read : HasRead disk old mid (Unit {0})) where
     pub migrates_read : (result : Result (Unit {0}) Stop) → OnOk result (HasMigrated disk old mid) → Migrates disk old mid result
     migrates_read result migrated = record {
@@ -119,7 +119,7 @@ module _ {D : Type 0} {disk : DiskModel D} (laws : IsDisk disk) (old mid : D) (r
       brought_to : (y : Tree) → StoresSame private_directory y goal → IsBrought (disk.reads old) y
       brought_to y stores = record { found = Some puts; migrated = (date, m); stores = stores }
 
-      module _ (new : D) (writes : Writes disk puts mid new) where
+      module _ (new : D) (writes : PutsOnRoot disk puts mid new) where
         done : (image : Tree) → RecoversTo private_directory image (with_targets puts (disk.reads mid)) → RecoversInAFormat (disk.reads old) image
         done image to = inr (goal, brought_to goal (λ q out. refl), subst (RecoversTo private_directory image) goal_is to)
 

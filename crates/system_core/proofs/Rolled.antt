@@ -13,13 +13,13 @@ use Rattle.rollback_stack.specs.Inverse.{no_records}
 use Rattle.rollback_stack.specs.declared.undo.Back.{Back}
 use Rattle.system_core.specs.FixedDirs.{fixed_dirs}
 use Rattle.system_core.specs.Inserting.{put_of_db}
-use Rattle.system_core.specs.Rollback.{IsReadyWith}
+use Rattle.system_core.specs.Rollback.{MayRollBack}
 use Rattle.system_core.specs.RootWriting.{IsPut}
 use Rattle.system_core.specs.Several.{IsStepTo}
 use Rattle.system_core.proofs.PuttingAll.{free, in_private}
 use Rattle.system_core.proofs.Resting.{fixed_stay, put_holds}
 
-module _ {D : Type 0} (disk : DiskModel D) (laws : IsDisk disk) (db : Db) (number : ℕ) (old mid new : D) (ready : IsReadyWith disk db old) (step : Back) (run : HasRead disk old mid (IsStepTo (disk.reads old) db number step))
+module _ {D : Type 0} (disk : DiskModel D) (laws : IsDisk disk) (db : Db) (number : ℕ) (old mid new : D) (ready : MayRollBack disk db old) (step : Back) (run : HasRead disk old mid (IsStepTo (disk.reads old) db number step))
     (put : IsPut disk step.puts mid new) where
   abbrev is : IsStepTo (disk.reads old) db number step
   is = run.answer
@@ -30,7 +30,7 @@ module _ {D : Type 0} (disk : DiskModel D) (laws : IsDisk disk) (db : Db) (numbe
   same : (q : Name) → is_reserved q ≡ false → get (disk.reads mid) q ≡ get (disk.reads old) q
   same q out = ap (λ (t : Tree). get t q) run.same.reads
 
-  pub rolled_ready : IsDatabase Two step.db.installed step.db.oldest step.db.newest → IsReadyWith disk step.db new
+  pub rolled_ready : IsDatabase Two step.db.installed step.db.oldest step.db.newest → MayRollBack disk step.db new
   rolled_ready rules = record {
     flag_clear = put.flag_clear;
     synced = put.synced;

@@ -218,13 +218,13 @@ module _ (one_db : OneDatabase) (one : OneRecord) (x : Tree) (s : SystemState) (
             holds = subst (λ (l : List StackItem). P n.job (after_rollbacks r.os l s).tree) n.rest_is (each r n t);
           }
 
-      pub edited_to : (path : Name) → why ≡ Edited path → OfTurn s number (λ o tree. test.IsFirstEdited o tree path)
-      edited_to path e = of_turn (λ o tree. test.IsFirstEdited o tree path)
+      pub edited_to : (path : Name) → why ≡ Edited path → OfTurn s number (λ o tree. test.IsFirstEditedSince o tree path)
+      edited_to path e = of_turn (λ o tree. test.IsFirstEditedSince o tree path)
           (λ r n t. first_edited_to x (undone_all (entries_all r.os) (marks_of x)) (after_rollbacks r.os r.rest s) t.turn n.job n.olds (t.left ∙ n.rest_is) path
           (subst (undo.IsUndoRefusal (state.entries_of n.job) (undone_all (entries_all r.os) (marks_of x))) e (refused r n)))
 
-      pub orphaned_to : (path : Name) → why ≡ Parent path → OfTurn s number (λ o tree. test.IsFirstOrphan o tree path)
-      orphaned_to path e = of_turn (λ o tree. test.IsFirstOrphan o tree path)
+      pub orphaned_to : (path : Name) → why ≡ Parent path → OfTurn s number (λ o tree. test.IsFirstWithoutDirectory o tree path)
+      orphaned_to path e = of_turn (λ o tree. test.IsFirstWithoutDirectory o tree path)
           (λ r n t. first_orphan_to x (undone_all (entries_all r.os) (marks_of x)) (after_rollbacks r.os r.rest s) t.turn n.job n.olds (t.left ∙ n.rest_is) path
           (subst (undo.IsUndoRefusal (state.entries_of n.job) (undone_all (entries_all r.os) (marks_of x))) e (refused r n)))
 

@@ -24,7 +24,7 @@ use Rattle.local_db.specs.declared.format.Format.{Format}
 use Rattle.local_db.specs.declared.format.Format.TheVariants.{One, Two}
 use Rattle.local_db.proofs.Frame.{stores_still}
 use Rattle.local_db.proofs.Places.{own_doesnt_count}
-use Rattle.system_core.specs.RootWriting.{RestsAt}
+use Rattle.system_core.specs.RootWriting.{RestsInFormat}
 use Rattle.rollback_stack.specs.Migrated.{IsMigrated}
 use Rattle.system_core.specs.Migrating.{IsBrought, IsDamagedStore, RecoversInAFormat, with_migration}
 use Rattle.system_core.specs.Ready.{EndsReady, HasReadied, IsReadyStop, MakesReady, Readies, ShowsOnTheWay}
@@ -89,7 +89,7 @@ module _ (one_db : OneDatabase) (one_record : OneRecord) (keeps : KeepsSystem) w
     ends_so (Err stop.FarFailed) readied stops = stops
     ends_so (Err (stop.FarDamaged path)) readied stops = stops
 
-    rests_so : (r : Result Db Stop) → IfOk r (HasReadied disk old new) → OnOk r (RestsAt disk Two s new)
+    rests_so : (r : Result Db Stop) → IfOk r (HasReadied disk old new) → OnOk r (RestsInFormat disk Two s new)
     rests_so (Err e) readied = tt
     rests_so (Ok db) readied = record {
       flag_clear = readied.ready.flag_clear;

@@ -26,12 +26,12 @@ use Rattle.job_targets.specs.Outcome.{AreChanges, AreGiven, AreOver, AreSavable,
 use Rattle.job_targets.proofs.GatherLaws.{gathers_memory, gathers_refuse, gathers_stop, gathers_then}
 use Rattle.rollback_stack.specs.Entries.{entries_of}
 use Rattle.system_core.specs.JobWriting as writing
-use Rattle.system_core.specs.JobWriting.{AreTargetsOf, IsSomething}
+use Rattle.system_core.specs.JobWriting.{AreTargetsOf, StandsBeforeOrAfter}
 use Rattle.local_db.specs.Installed.{IsInstalled}
 use Rattle.system_core.specs.Job.{IsTestRefusal, IsTested, Sources, unmet, unplanned, untargeted}
-use Rattle.system_core.specs.Lists.{AreAllowed}
+use Rattle.system_core.specs.Lists.{AllPathsAllowed}
 use Rattle.rollback_stack.specs.change-set.Contents.{IfRefused}
-use Rattle.system_core.specs.Something.{LacksOne}
+use Rattle.system_core.specs.Something.{LacksSomething}
 use Rattle.system_core.proofs.Formed.{targets_formed}
 use Rattle.system_core.proofs.Shared.{unshared_pairs}
 use Rattle.system_core.proofs.Values.{are_targets, nothing_lacks, puts_free}
@@ -40,7 +40,7 @@ use Rattle.job_targets.proofs.content-store.Sources.{keeps_start}
 -- ---- as values
 
 -- what a job asks of the list after it
-pub installed_after : (list : List TroveParts) → All IsTrove list → IsRising list → AreAllowed list → IsUnshared list → IsInstalled list
+pub installed_after : (list : List TroveParts) → All IsTrove list → IsRising list → AllPathsAllowed list → IsUnshared list → IsInstalled list
 installed_after list troves rising allowed unshared = record { troves = troves; rising = rising; allowed = allowed; unshared = unshared_pairs list unshared }
 
 module _ {D C : Type 0} {disk : DiskModel D} {contents : ContentsModel C} (searches : IsSource contents) (laws : IsDisk disk) (from : Sources) (before list : List TroveParts) where
@@ -108,21 +108,21 @@ module _ {D C : Type 0} {disk : DiskModel D} {contents : ContentsModel C} (searc
   -- at a path where nothing stands nothing is to stand: no disk that tells its tree has one
   pub lack_stop : {old new : D} {far far' : C} (made : Targets) (es : List Entry) → es ≡ made.entries → (e : Fault) (r : Result Targets Stop) → IsErrAnd r (λ s. s ≡ stop_of_fault e)
       → Gathers disk contents (IsTested from before list) (IsTestRefusal from before list) old new far far' (Ok made)
-      → (IsTrue disk.tells → AreTargetsOf (disk.reads old) made.puts made.entries) → IfRefused (LacksOne es) e
+      → (IsTrue disk.tells → AreTargetsOf (disk.reads old) made.puts made.entries) → IfRefused (LacksSomething es) e
       → Gathers disk contents (IsTested from before list) (IsTestRefusal from before list) old new far far' r
   lack_stop {old = old} {new = new} {far = far} {far' = far'} made es same e r is run over lacks = by e is lacks
     where
-      by : (e : Fault) → IsErrAnd r (λ s. s ≡ stop_of_fault e) → IfRefused (LacksOne es) e → Gathers disk contents (IsTested from before list) (IsTestRefusal from before list) old new far far' r
+      by : (e : Fault) → IsErrAnd r (λ s. s ≡ stop_of_fault e) → IfRefused (LacksSomething es) e → Gathers disk contents (IsTested from before list) (IsTestRefusal from before list) old new far far' r
       by (fault.Refused refusal) is lacks =
           gathers_refuse refusal run is
-          (λ tells h. let o = over tells in absurd (nothing_lacks (disk.reads old) made.puts made.entries o.changes o.entries refusal (subst (λ (l : List Entry). LacksOne l refusal) same lacks)))
+          (λ tells h. let o = over tells in absurd (nothing_lacks (disk.reads old) made.puts made.entries o.changes o.entries refusal (subst (λ (l : List Entry). LacksSomething l refusal) same lacks)))
       by fault.Memory is lacks = gathers_memory run is
 
   -- ---- what is then known of them
 
   module _ {old mid : D} (planned seen : List Planned) (same : seen ≡ planned) (made : Targets) (run : OnlyReads disk (IsPlan before list from.options) (IsFirstRefusal before list from.options) old mid (Ok planned))
       (plannable : ArePlannable before list planned) (fits : FitPlan seen made) (given : AreGiven made.puts)
-      (is_before : IsInstalled before) (troves : All IsTrove list) (allowed : AreAllowed list) where
+      (is_before : IsInstalled before) (troves : All IsTrove list) (allowed : AllPathsAllowed list) where
     fits_plan : FitPlan planned made
     fits_plan = subst (λ (p : List Planned). FitPlan p made) same fits
 
@@ -138,9 +138,9 @@ module _ {D C : Type 0} {disk : DiskModel D} {contents : ContentsModel C} (searc
     })
 
     -- on every disk
-    pub as_targets : AreSavable made.entries → (es : List Entry) → es ≡ made.entries → All IsSomething (entries_of es) → writing.AreTargets made.puts made.entries
+    pub as_targets : AreSavable made.entries → (es : List Entry) → es ≡ made.entries → All StandsBeforeOrAfter (entries_of es) → writing.AreRecordedTargets made.puts made.entries
     as_targets savable es of_made something =
-        are_targets before list planned made is_before.troves troves is_before.allowed allowed plannable fits_plan given savable (subst (λ (l : List Entry). All IsSomething (entries_of l)) of_made something)
+        are_targets before list planned made is_before.troves troves is_before.allowed allowed plannable fits_plan given savable (subst (λ (l : List Entry). All StandsBeforeOrAfter (entries_of l)) of_made something)
 
 -- the same, by equal lists
 pub gathers_lists : {D C : Type 0} {disk : DiskModel D} {contents : ContentsModel C} (from : Sources) (before before' list list' : List TroveParts) {old new : D} {far far' : C} {r : Result Targets Stop} → before' ≡ before → list' ≡ list

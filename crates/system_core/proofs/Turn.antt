@@ -107,17 +107,17 @@ module _ (x : Tree) (m : Marks) (s : SystemState) (turn : IsTurn x m s) (o : Sta
         ),
       )
 
-  pub edited_to : (p : Name) → IsFree p → undo.IsEdited (state.entries_of o) m (told_at o p) → test.IsEdited o s.tree p
+  pub edited_to : (p : Name) → IsFree p → undo.IsEdited (state.entries_of o) m (told_at o p) → test.IsEditedSince o s.tree p
   edited_to p free (inl other) = inl (λ same. other (turn.outer p free.not_reserved ∙ same))
   edited_to p free (inr foreign) = inr (foreign_to p free foreign)
 
-  pub edited_from : (p : Name) → IsFree p → test.IsEdited o s.tree p → undo.IsEdited (state.entries_of o) m (told_at o p)
+  pub edited_from : (p : Name) → IsFree p → test.IsEditedSince o s.tree p → undo.IsEdited (state.entries_of o) m (told_at o p)
   edited_from p free (inl other) = inl (λ same. other (sym (turn.outer p free.not_reserved) ∙ same))
   edited_from p free (inr foreign) = inr (foreign_from p foreign)
 
   -- no path of the job is edited
   pub unedited_to : (paths : List Name) → All IsFree paths → All (λ (e : state.Entry). undo.IsEdited (state.entries_of o) m e → ⊥) (map (told_at o) paths)
-      → All (λ (p : Name). test.IsEdited o s.tree p → ⊥) paths
+      → All (λ (p : Name). test.IsEditedSince o s.tree p → ⊥) paths
   unedited_to paths free none k d lt = λ edited. unmapped (λ (e : state.Entry). undo.IsEdited (state.entries_of o) m e → ⊥) (told_at o) paths none k d lt (edited_from (get_or paths k d) (free k d lt) edited)
 
   -- ---- the tree with the nodes before the job
@@ -138,7 +138,7 @@ module _ (x : Tree) (m : Marks) (s : SystemState) (turn : IsTurn x m s) (o : Sta
   result_outer q some = ⊎_elim (λ in'. absurd (some (result_inner q in'))) (λ out. out) (cases_Bool (is_reserved q))
 
   -- an orphan of the result is one by the fingerprints
-  pub orphan_from : (q : Name) → test.IsOrphan (with_targets (backs o) s.tree) q → undo.IsOrphan (undone (state.entries_of o) m) q
+  pub orphan_from : (q : Name) → test.LacksDirectory (with_targets (backs o) s.tree) q → undo.IsOrphan (undone (state.entries_of o) m) q
   orphan_from q h =
       let out = result_outer q h.0 in (
         λ nothing. h.0 (none_told (get (with_targets (backs o) s.tree) q) (sym (result_at q out) ∙ nothing)),
@@ -168,7 +168,7 @@ module _ (x : Tree) (m : Marks) (s : SystemState) (turn : IsTurn x m s) (o : Sta
       (λ other. turn.system.tree.paths q (stands (get s.tree q) (λ none. h.0 (undone_as_read q other ∙ turn.outer q (orphan_outer q h) ∙ ap fingerprint none))))
       (cases_Bool (is_listed o.paths q))
 
-  pub orphan_to : (q : Name) → undo.IsOrphan (undone (state.entries_of o) m) q → test.IsOrphan (with_targets (backs o) s.tree) q
+  pub orphan_to : (q : Name) → undo.IsOrphan (undone (state.entries_of o) m) q → test.LacksDirectory (with_targets (backs o) s.tree) q
   orphan_to q h =
       let out = orphan_outer q h in (
         λ none. h.0 (result_at q out ∙ ap fingerprint none),
@@ -177,14 +177,14 @@ module _ (x : Tree) (m : Marks) (s : SystemState) (turn : IsTurn x m s) (o : Sta
 
   -- ---- refusals
 
-  pub first_orphan_to : (path : Name) → undo.IsFirstOrphan (state.entries_of o) m path → test.IsFirstOrphan o s.tree path
+  pub first_orphan_to : (path : Name) → undo.IsFirstOrphan (state.entries_of o) m path → test.IsFirstWithoutDirectory o s.tree path
   first_orphan_to path h = record {
     unedited = unedited_to o.paths item.free h.unedited;
     orphan = orphan_to path h.orphan;
     first = λ q less orphan. h.first q less (orphan_from q orphan);
   }
 
-  pub first_edited_to : (path : Name) → undo.IsFirstEdited (state.entries_of o) m path → test.IsFirstEdited o s.tree path
+  pub first_edited_to : (path : Name) → undo.IsFirstEdited (state.entries_of o) m path → test.IsFirstEditedSince o s.tree path
   first_edited_to path h =
       let parts = split_map (told_at o) o.paths h.front h.first h.rest h.split in
       let named : path ≡ parts.one = h.path_is ∙ ap (λ (e : state.Entry). e.path) parts.one_is in
@@ -195,7 +195,7 @@ module _ (x : Tree) (m : Marks) (s : SystemState) (turn : IsTurn x m s) (o : Sta
         split = parts.split ∙ ap (λ (p : Name). parts.before ++ p ∷ parts.behind) (sym named);
         unedited = unedited_to parts.before (all_front IsFree parts.before (parts.one ∷ parts.behind) frees)
             (subst (All (λ (e : state.Entry). undo.IsEdited (state.entries_of o) m e → ⊥)) parts.front_is h.unedited);
-        edited = subst (test.IsEdited o s.tree) (sym named)
+        edited = subst (test.IsEditedSince o s.tree) (sym named)
             (edited_to parts.one (all_middle IsFree parts.before parts.one parts.behind frees)
             (subst (undo.IsEdited (state.entries_of o) m) parts.one_is h.edited));
       }

@@ -21,9 +21,9 @@ use Rattle.job_targets.specs.Targets.{HaveEntries, HavePuts}
 use Rattle.job_targets.specs.Outcome.{AreGiven, AreSavable, FitPlan}
 use Rattle.job_targets.specs.declared.targets.Targets.{Targets}
 use Rattle.rollback_stack.specs.Entries.{entries_of}
-use Rattle.system_core.specs.JobWriting.{entries_over, AreTargets, IsSomething}
-use Rattle.system_core.specs.Something.{is_something, is_some_by, LacksOne}
-use Rattle.system_core.specs.Lists.{AreAllowed}
+use Rattle.system_core.specs.JobWriting.{entries_over, AreRecordedTargets, StandsBeforeOrAfter}
+use Rattle.system_core.specs.Something.{is_something, is_some_by, LacksSomething}
+use Rattle.system_core.specs.Lists.{AllPathsAllowed}
 use Rattle.system_core.proofs.Recorded.{plannable_free}
 
 pub paths_same : (xs : List Planned) (ps : List Put) (es : List Entry) → HavePuts xs ps → HaveEntries xs es → map (λ (e : Entry). e.path) es ≡ paths_of ps
@@ -41,21 +41,21 @@ free_by [] (p ∷ ps) puts all = absurd puts
 free_by (x ∷ xs) [] puts all = absurd puts
 free_by (x ∷ xs) (p ∷ ps) puts all = (subst IsFree (sym puts.0.path) all.0, free_by xs ps puts.1 all.1)
 
-planned_free : (old fresh : List TroveParts) (xs : List Planned) → All IsTrove old → All IsTrove fresh → AreAllowed old → AreAllowed fresh
+planned_free : (old fresh : List TroveParts) (xs : List Planned) → All IsTrove old → All IsTrove fresh → AllPathsAllowed old → AllPathsAllowed fresh
     → AllByRecursion (IsPlannable old fresh) xs → AllByRecursion (λ (x : Planned). IsFree x.path) xs
 planned_free old fresh [] olds freshes a b all = tt
 planned_free old fresh (x ∷ xs) olds freshes a b all = (plannable_free old fresh x olds freshes a b all.0, planned_free old fresh xs olds freshes a b all.1)
 
 -- the paths of the writes are free
-pub puts_free : (old fresh : List TroveParts) (xs : List Planned) (ps : List Put) → All IsTrove old → All IsTrove fresh → AreAllowed old → AreAllowed fresh
+pub puts_free : (old fresh : List TroveParts) (xs : List Planned) (ps : List Put) → All IsTrove old → All IsTrove fresh → AllPathsAllowed old → AllPathsAllowed fresh
     → ArePlannable old fresh xs → HavePuts xs ps → All (λ (p : Put). IsFree p.path) ps
 puts_free old fresh xs ps olds freshes a b plannable puts =
     All-from_recursion (λ (p : Put). IsFree p.path) ps
     (free_by xs ps puts (planned_free old fresh xs olds freshes a b (recursion_from_All (IsPlannable old fresh) xs plannable.each)))
 
 -- what a job asks of them on every disk
-pub are_targets : (old fresh : List TroveParts) (xs : List Planned) (t : Targets) → All IsTrove old → All IsTrove fresh → AreAllowed old → AreAllowed fresh
-    → ArePlannable old fresh xs → FitPlan xs t → AreGiven t.puts → AreSavable t.entries → All IsSomething (entries_of t.entries) → AreTargets t.puts t.entries
+pub are_targets : (old fresh : List TroveParts) (xs : List Planned) (t : Targets) → All IsTrove old → All IsTrove fresh → AllPathsAllowed old → AllPathsAllowed fresh
+    → ArePlannable old fresh xs → FitPlan xs t → AreGiven t.puts → AreSavable t.entries → All StandsBeforeOrAfter (entries_of t.entries) → AreRecordedTargets t.puts t.entries
 are_targets old fresh xs t olds freshes a b plannable fits given savable something = record {
   free = puts_free old fresh xs t.puts olds freshes a b plannable fits.puts;
   given = given.given;
@@ -81,7 +81,7 @@ each_over x [] all = tt
 each_over x (p ∷ ps) all = (some_over (get x p.path) (node_of p.want) all.0, each_over x ps all.1)
 
 -- so none lacks both
-pub nothing_lacks : (x : Tree) (ps : List Put) (es : List Entry) → All (λ (p : Put). get x p.path ≢ node_of p.want) ps → es ≡ entries_over x ps → (why : Refusal) → LacksOne es why → ⊥
+pub nothing_lacks : (x : Tree) (ps : List Put) (es : List Entry) → All (λ (p : Put). get x p.path ≢ node_of p.want) ps → es ≡ entries_over x ps → (why : Refusal) → LacksSomething es why → ⊥
 nothing_lacks x ps es changes is why lacks =
     absurd (cc (
       lacks.nothing,

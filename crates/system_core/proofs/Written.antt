@@ -34,7 +34,7 @@ use Rattle.local_db.proofs.Frame.{stores_still}
 use Rattle.local_db.proofs.Places.{own_doesnt_count, own_reserved}
 use Rattle.local_db.proofs.Putting.{all_can, all_formed, all_named}
 use Rattle.local_db.proofs.Together.{at_every_moment}
-use Rattle.system_core.specs.RootWriting.{AreSettled, CanWrite, Goes, IsPut, RecoversToOneOf, RestsAt, RecoversToEither, ShowsEither, KeepsOthers, Writes, is_private_or_target}
+use Rattle.system_core.specs.RootWriting.{AreSettled, CanWrite, TakesRoot, IsPut, RecoversToOneOf, RestsInFormat, RecoversToEitherSystem, ShowsEither, KeepsNonTargets, PutsOnRoot, is_private_or_target}
 use Rattle.system_core.proofs.Sameness.{not_own}
 use Rattle.local_db.proofs.cny-base.Bools.{or_left, or_right}
 use Rattle.tree_journal.proofs.tree-disk.Children.{some_dir as stands_dir}
@@ -105,13 +105,13 @@ same_itself x q out = refl
 
 module _ {D : Type 0} {disk : DiskModel D} (laws : IsDisk disk) (puts : List Put) (old : D) (can : CanWrite disk puts old)
     (f g : Format) (s t : SystemState) (stores : StoresIn f (disk.reads old) s) (settled : AreSettled disk old s) (after : StoresIn g (with_targets puts (disk.reads old)) t) where
-  as_reads : (image : Tree) → RecoversTo private_directory image (disk.reads old) → RecoversToEither s t image
+  as_reads : (image : Tree) → RecoversTo private_directory image (disk.reads old) → RecoversToEitherSystem s t image
   as_reads image recovers = inl (disk.reads old, recovers, stores_either f (disk.reads old) s stores)
 
-  as_after : (image : Tree) → RecoversTo private_directory image (apply.goal private_directory puts (disk.reads old)) → RecoversToEither s t image
+  as_after : (image : Tree) → RecoversTo private_directory image (apply.goal private_directory puts (disk.reads old)) → RecoversToEitherSystem s t image
   as_after image recovers = inr (with_targets puts (disk.reads old), subst (RecoversTo private_directory image) (whole disk puts old can) recovers, stores_either g (with_targets puts (disk.reads old)) t after)
 
-  moment : (image : Tree) → IsBeforeOrAfter disk private_directory puts old image → RecoversToEither s t image
+  moment : (image : Tree) → IsBeforeOrAfter disk private_directory puts old image → RecoversToEitherSystem s t image
   moment image recovers = at_every_moment f g (disk.reads old) (with_targets puts (disk.reads old)) (disk.unsynced old) s t image stores after settled
       (⊎_elim (λ before. inl before) (λ done. inr (subst (RecoversTo private_directory image) (whole disk puts old can) done)) recovers)
 
@@ -120,7 +120,7 @@ module _ {D : Type 0} {disk : DiskModel D} (laws : IsDisk disk) (puts : List Put
   clear_image : (image : Tree) → IsImageOf disk old image → is_committed private_directory image ≡ false
   clear_image image crash = ap is_flag (crash.synced (gate private_directory) can.flag_synced) ∙ can.flag_clear
 
-  pub nothing_done : (Why : Stop → Type 0) (result : Result (Unit {0}) Stop) → IsErrAnd result Why → Goes disk g s t puts old old result
+  pub nothing_done : (Why : Stop → Type 0) (result : Result (Unit {0}) Stop) → IsErrAnd result Why → TakesRoot disk g s t puts old old result
   nothing_done Why (Ok done) is = absurd is
   nothing_done Why (Err stop) is = record {
     images = record {
@@ -149,7 +149,7 @@ module _ {D : Type 0} {disk : DiskModel D} (laws : IsDisk disk) (puts : List Put
         subst (λ (n : Option Node). ShowsNode n (get t.tree q) (get shown q)) (stores.managed q out)
         (subst (λ (n : Option Node). ShowsNode (get (disk.reads old) q) n (get shown q)) e (is q (not_own q out)))
 
-    keeps : KeepsOthers puts (disk.reads old) (disk.reads new)
+    keeps : KeepsNonTargets puts (disk.reads old) (disk.reads new)
     keeps q out other = confined.reads q (λ among. ⊎_elim (λ own. cc (own, not_own q out)) (λ is. cc (is, other)) (or_cases (is_own private_directory q) (is_target puts q) among))
 
     is_private : (q : Name) → is_own_or_target private_directory puts q ≡ true → is_private_or_target puts q ≡ true
@@ -162,11 +162,11 @@ module _ {D : Type 0} {disk : DiskModel D} (laws : IsDisk disk) (puts : List Put
     at_last tree same = stores_still g (with_targets puts (disk.reads old)) tree t
         (λ q counted. same q (own_doesnt_count t q counted) ∙ ap (λ (y : Tree). get y q) (whole disk puts old can)) after
 
-    resting : IsAtRest disk private_directory (apply.goal private_directory puts (disk.reads old)) new → RestsAt disk g t new
+    resting : IsAtRest disk private_directory (apply.goal private_directory puts (disk.reads old)) new → RestsInFormat disk g t new
     resting rest = record { flag_clear = rest.flag_clear; synced = rest.synced; stores = at_last (disk.reads new) rest.stores }
 
     pub goes_on : (result : Result (Unit {0}) Stop) → OnOk result (IsAtRest disk private_directory (apply.goal private_directory puts (disk.reads old)) new)
-        → OnErr result (IsOneOf private_directory puts (disk.reads old) (disk.reads new)) → Goes disk g s t puts old new result
+        → OnErr result (IsOneOf private_directory puts (disk.reads old) (disk.reads new)) → TakesRoot disk g s t puts old new result
     goes_on (Ok done) applied stopped = record {
       images = leaves_weaker moment any_moment;
       rests = resting applied;
@@ -187,7 +187,7 @@ module _ {D : Type 0} {disk : DiskModel D} (laws : IsDisk disk) (puts : List Put
 -- ---- of trees
 
 module _ {D : Type 0} {disk : DiskModel D} (laws : IsDisk disk) (puts : List Put) (old : D) (can : CanWrite disk puts old) where
-  pub nothing_written : Writes disk puts old old
+  pub nothing_written : PutsOnRoot disk puts old old
   nothing_written = record {
     images = record {
       later = omega arith;
@@ -205,7 +205,7 @@ module _ {D : Type 0} {disk : DiskModel D} (laws : IsDisk disk) (puts : List Put
   module _ (new : D) (any_moment : LeavesOnly disk old new (IsBeforeOrAfter disk private_directory puts old))
       (confined : Confined disk (Among (is_own_or_target private_directory puts)) old new)
       (visible : UnlessFailed disk old new (IsVisible private_directory (disk.reads old) (apply.goal private_directory puts (disk.reads old)))) where
-    writes : RecoversToOneOf puts (disk.reads old) (disk.reads new) → Writes disk puts old new
+    writes : RecoversToOneOf puts (disk.reads old) (disk.reads new) → PutsOnRoot disk puts old new
     writes reads = record {
       images = leaves_weaker (λ image is. ⊎_elim (λ before. inl before) (λ done. inr (subst (RecoversTo private_directory image) (whole disk puts old can) done)) is) any_moment;
       reads = reads;
@@ -214,6 +214,6 @@ module _ {D : Type 0} {disk : DiskModel D} (laws : IsDisk disk) (puts : List Put
     }
 
     pub all_written : (result : Result (Unit {0}) Stop) → OnOk result (IsAtRest disk private_directory (apply.goal private_directory puts (disk.reads old)) new)
-        → OnErr result (IsOneOf private_directory puts (disk.reads old) (disk.reads new)) → Writes disk puts old new
+        → OnErr result (IsOneOf private_directory puts (disk.reads old) (disk.reads new)) → PutsOnRoot disk puts old new
     all_written (Ok done) applied stopped = writes (inr (subst (RecoversTo private_directory (disk.reads new)) (whole disk puts old can) (at_rest applied.flag_clear applied.stores)))
     all_written (Err stop) applied stopped = writes (⊎_elim (λ before. inl before) (λ after. inr (subst (RecoversTo private_directory (disk.reads new)) (whole disk puts old can) after)) stopped)

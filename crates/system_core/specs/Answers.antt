@@ -42,13 +42,13 @@ IsTestAnswer list (refusal.Collision name at) = PassesListTests list
 IsTestAnswer list _ = ⊥
 
 -- one of them, or a fault once the list has passed, or want of memory
-abbrev pub IsTestStop : List TroveParts → Stop → Type 0
-IsTestStop list (Refused why) = IsTestAnswer list why
-IsTestStop list Memory = Unit {0}
-IsTestStop list Failed = PassesListTests list
-IsTestStop list (Damaged path) = ⊥
-IsTestStop list FarFailed = PassesListTests list
-IsTestStop list (FarDamaged path) = PassesListTests list
+abbrev pub IsJobTestStop : List TroveParts → Stop → Type 0
+IsJobTestStop list (Refused why) = IsTestAnswer list why
+IsJobTestStop list Memory = Unit {0}
+IsJobTestStop list Failed = PassesListTests list
+IsJobTestStop list (Damaged path) = ⊥
+IsJobTestStop list FarFailed = PassesListTests list
+IsJobTestStop list (FarDamaged path) = PassesListTests list
 
 -- these are the writes of a plan over this tree, which passes the tests
 abbrev pub HasWrites : Sources → List TroveParts → List TroveParts → Tree → List Put → Type 0

@@ -7,9 +7,9 @@ use Rattle.update_job.specs.declared.comparing.Change.{Change}
 use Rattle.update_job.specs.Changes.{name_of}
 
 -- the names of the troves that change
-abbrev pub names_of : List Change → List (List ℕ)
-names_of changes = map name_of changes
+abbrev pub names_changed : List Change → List (List ℕ)
+names_changed changes = map name_of changes
 
 -- what the list has of these names, in their order
-abbrev pub troves_of : List TroveParts → List (List ℕ) → List TroveParts
-troves_of list names = flat_map (λ name. option_to_list (trove_of name list)) names
+abbrev pub troves_named : List TroveParts → List (List ℕ) → List TroveParts
+troves_named list names = flat_map (λ name. option_to_list (trove_of name list)) names

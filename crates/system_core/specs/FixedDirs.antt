@@ -18,9 +18,9 @@ abbrev pub ◌>>=◌ : {A B : Type 0} → Result A Refusal → (A → Result B R
 (Ok x) >>= f = f x
 (Err e) >>= f = Err e
 
-abbrev pub dir_at : Tree → Name → Result (Unit {0}) Refusal
-dir_at tree path = if is_dir_at tree path then Ok tt else Err (refusal.Parent path)
+abbrev pub test_dir : Tree → Name → Result (Unit {0}) Refusal
+test_dir tree path = if is_dir_at tree path then Ok tt else Err (refusal.Parent path)
 
 -- `/`, `/var` and `/var/lib` are directories; the first that isn't is the refusal
 abbrev pub fixed_dirs : Tree → Result (Unit {0}) Refusal
-fixed_dirs tree = dir_at tree (codes "/") >>= λ _. dir_at tree (codes "/var") >>= λ _. dir_at tree (codes "/var/lib")
+fixed_dirs tree = test_dir tree (codes "/") >>= λ _. test_dir tree (codes "/var") >>= λ _. test_dir tree (codes "/var/lib")

@@ -11,20 +11,20 @@ use Rattle.local_db.specs.Names.{database}
 pub use Rattle.update_job.specs.cny-base.Modes.{file_mode}
 
 -- the bytes of the database, in format 2
-abbrev pub bytes_of : Db → List ℕ
-bytes_of db = database_bytes Two db.installed db.oldest db.newest
+abbrev pub bytes_of_db : Db → List ℕ
+bytes_of_db db = database_bytes Two db.installed db.oldest db.newest
 
 -- the database's file
 abbrev pub put_of_db : Db → Put
-put_of_db db = record { path = database; want = want.File file_mode (bytes_of db) }
+put_of_db db = record { path = database; want = want.File file_mode (bytes_of_db db) }
 
 -- its bytes are within the limit
-abbrev pub HasRoom : Db → Type 0
-HasRoom db = Fits Two db.installed
+abbrev pub HasDatabaseRoom : Db → Type 0
+HasDatabaseRoom db = Fits Two db.installed
 
 -- each number of its text is a byte
 abbrev pub HasBytes : Db → Type 0
-HasBytes db = IsTrue (list_all is_byte (bytes_of db))
+HasBytes db = IsTrue (list_all is_byte (bytes_of_db db))
 
 -- the writes but the one at this path
 abbrev pub without : Name → List Put → List Put

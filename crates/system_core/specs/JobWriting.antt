@@ -31,8 +31,8 @@ use Rattle.local_db.specs.declared.db.Db.{Db}
 use Rattle.rollback_stack.specs.Saving.{IsUntoldCollision}
 use Rattle.rollback_stack.specs.job-record.Changed.{AreChangedNames}
 use Rattle.rollback_stack.specs.Entries.{AreEntries, entries_of}
-use Rattle.system_core.specs.RootWriting.{Goes}
-use Rattle.system_core.specs.Last.{ChangesNothing, IsRefusedLast, PassesLast, db_after}
+use Rattle.system_core.specs.RootWriting.{TakesRoot}
+use Rattle.system_core.specs.Last.{ChangesNeither, IsRefusedLast, PassesLast, db_after}
 
 -- ---- what is asked
 
@@ -44,16 +44,16 @@ abbrev pub entries_over : Tree → List Put → List Entry
 entries_over x puts = map (entry_over x) puts
 
 -- at one of the two moments something stands at the path
-abbrev pub IsSomething : state.Entry → Type 0
-IsSomething e = (e.was ≡ mark.Nothing) × (e.now ≡ mark.Nothing) → ⊥
+abbrev pub StandsBeforeOrAfter : state.Entry → Type 0
+StandsBeforeOrAfter e = (e.was ≡ mark.Nothing) × (e.now ≡ mark.Nothing) → ⊥
 
 -- The targets of a job and the entries of its record, as values: on every disk.
-pub record AreTargets (puts : List Put) (es : List Entry) : Type 0 where
+pub record AreRecordedTargets (puts : List Put) (es : List Entry) : Type 0 where
   pub free : All (λ (p : Put). IsFree p.path) puts
   pub given : All (λ (p : Put). is_staged p.want ≡ false) puts
   pub paths : map (λ (e : Entry). e.path) es ≡ paths_of puts
   pub entries : AreEntries es
-  pub something : All IsSomething (entries_of es)
+  pub something : All StandsBeforeOrAfter (entries_of es)
   pub agree : AllAgree es
 
 -- Each target changes what stands at its path in the tree, which a record can tell; the entries are those of the targets; and the
@@ -87,7 +87,7 @@ abbrev pub database_write : List ℕ → Put
 database_write bytes = record { path = database; want = want.File 420 bytes }
 
 -- What is made of a job before it is written: the names whose trove it changes, the database after it, and that database's bytes.
-pub record IsJobOf (before : Db) (list : List TroveParts) (names : List Name) (db : Db) (bytes : List ℕ) : Type 0 where
+pub record IsJobMade (before : Db) (list : List TroveParts) (names : List Name) (db : Db) (bytes : List ℕ) : Type 0 where
   pub db_is : db ≡ db_after before list
   pub database : IsDatabase Two db.installed db.oldest db.newest
   pub next : db.newest ≡ before.newest + 1
@@ -108,11 +108,11 @@ done = Ok tt
 -- How a job ends from a system that the root stored. With a number: from that system to the one after the job. Without one, or
 -- refused: no call of the disk was made. After a fault or want of memory: on the way from the one to the other.
 abbrev pub JobEnds : {D : Type 0} → DiskModel D → List Put → List TroveParts → SystemState → D → D → Result (Option ℕ) Stop → Type 0
-JobEnds disk puts list s old new (Ok (Some number)) = (number ≡ newest s.stack + 1) × Goes disk Two s (after_job puts list s) puts old new done
+JobEnds disk puts list s old new (Ok (Some number)) = (number ≡ newest s.stack + 1) × TakesRoot disk Two s (after_job puts list s) puts old new done
 JobEnds disk puts list s old new (Ok None) = new ≡ old
 JobEnds disk puts list s old new (Err (Refused why)) = new ≡ old
-JobEnds disk puts list s old new (Err Failed) = Goes disk Two s (after_job puts list s) puts old new (Err Failed)
-JobEnds disk puts list s old new (Err Memory) = Goes disk Two s (after_job puts list s) puts old new (Err Memory)
+JobEnds disk puts list s old new (Err Failed) = TakesRoot disk Two s (after_job puts list s) puts old new (Err Failed)
+JobEnds disk puts list s old new (Err Memory) = TakesRoot disk Two s (after_job puts list s) puts old new (Err Memory)
 JobEnds disk puts list s old new (Err (Damaged path)) = ⊥
 JobEnds disk puts list s old new (Err FarFailed) = ⊥
 JobEnds disk puts list s old new (Err (FarDamaged path)) = ⊥
@@ -121,7 +121,7 @@ JobEnds disk puts list s old new (Err (FarDamaged path)) = ⊥
 -- database where nothing changes. After an error the database is as it was.
 abbrev pub AnswersJob : Db → List TroveParts → List Put → Db → Result (Option ℕ) Stop → Type 0
 AnswersJob db list puts new (Ok (Some number)) = (number ≡ db.newest + 1) × (new ≡ db_after db list) × PassesLast db list puts
-AnswersJob db list puts new (Ok None) = (new ≡ db) × ChangesNothing db list puts
+AnswersJob db list puts new (Ok None) = (new ≡ db) × ChangesNeither db list puts
 AnswersJob db list puts new (Err stop) = new ≡ db
 
 -- The last tests passed; and where the disk tells nothing, an old content collides while it is saved.

@@ -29,20 +29,20 @@ abbrev pub database_size : List TroveParts → ℕ
 database_size list = length (database_bytes Two list 0 0)
 
 -- neither the tree nor the list changes
-pub record ChangesNothing (db : Db) (list : List TroveParts) (puts : List Put) : Type 0 where
+pub record ChangesNeither (db : Db) (list : List TroveParts) (puts : List Put) : Type 0 where
   pub no_target : puts ≡ []
   pub same_list : list ≡ db.installed
 
 -- The last tests pass.
 pub record PassesLast (db : Db) (list : List TroveParts) (puts : List Put) : Type 0 where
   pub short : database_size list ≤ DATABASE_LIMIT
-  pub something : ChangesNothing db list puts → ⊥
+  pub something : ChangesNeither db list puts → ⊥
   pub room : db.newest ≢ JOBS_LIMIT
 
 -- This is the first of the last tests that fails.
 pub data IsRefusedLast (db : Db) (list : List TroveParts) (puts : List Put) (why : Refusal) : Type 0 where
   too_large : DATABASE_LIMIT < database_size list → why ≡ TooLarge Database (database_size list) → IsRefusedLast db list puts why
-  too_many : database_size list ≤ DATABASE_LIMIT → (ChangesNothing db list puts → ⊥) → db.newest ≡ JOBS_LIMIT → why ≡ TooLarge Jobs JOBS_LIMIT → IsRefusedLast db list puts why
+  too_many : database_size list ≤ DATABASE_LIMIT → (ChangesNeither db list puts → ⊥) → db.newest ≡ JOBS_LIMIT → why ≡ TooLarge Jobs JOBS_LIMIT → IsRefusedLast db list puts why
 
 -- the same, where something changes; or no memory was left
 abbrev pub IsLastOrMemory : ℕ → List TroveParts → Fault → Type 0

@@ -23,5 +23,5 @@ abbrev pub to_list : List TroveParts → ListStep
 to_list list = record { leads = λ after. after ≡ list; refuses = λ why. ⊥ }
 
 -- no trove of the list records a path that no trove may record
-abbrev pub AreAllowed : List TroveParts → Type 0
-AreAllowed list = All (λ (t : TroveParts). first_forbidden t.files ≡ None) list
+abbrev pub AllPathsAllowed : List TroveParts → Type 0
+AllPathsAllowed list = All (λ (t : TroveParts). first_forbidden t.files ≡ None) list

@@ -19,7 +19,7 @@ use Rattle.local_db.specs.Stores.{HoldsDatabase, IsDatabase}
 use Rattle.local_db.specs.declared.db.Db.{Db}
 use Rattle.local_db.specs.Loading.{HoldsDb, HoldsNoDb}
 use Rattle.rollback_stack.specs.Migrated.{IsDamagedFile, IsMigrated, is_up_to_date}
-use Rattle.system_core.specs.Opening.{IsAtRest}
+use Rattle.system_core.specs.Opening.{IsSettledRoot}
 
 -- ---- of trees
 
@@ -46,7 +46,7 @@ IsDamagedStore x path = IsDamagedFile x path ⊎ ((path ≡ database) × HoldsNo
 
 -- the root rests, and stores in format 2 what it stored
 pub record HasMigrated {D : Type 0} (disk : DiskModel D) (old new : D) : Type 0 where
-  pub rests : IsAtRest disk new
+  pub rests : IsSettledRoot disk new
   pub brought : IsBrought (disk.reads old) (disk.reads new)
 
 -- From a root at rest: at every moment a crash leaves a tree that recovers to what the root read, as it was or in format 2, and so does
@@ -68,7 +68,7 @@ IsMigratingStop disk old new e = IsReadStop disk.tells (λ path. HasRead disk ol
 
 -- The root rests, in format 2. The database is that of the tree before, in either format, and of the one after.
 pub record HasLoaded {D : Type 0} (disk : DiskModel D) (old new : D) (db : Db) : Type 0 where
-  pub rests : IsAtRest disk new
+  pub rests : IsSettledRoot disk new
   pub brought : IsBrought (disk.reads old) (disk.reads new)
   pub held : HoldsDb (disk.reads old) db
   pub holds : HoldsDatabase Two (disk.reads new) db.installed db.oldest db.newest

@@ -20,12 +20,12 @@ use Rattle.local_db.specs.declared.format.Format.TheVariants.{Two}
 use Rattle.local_db.specs.Names.{database}
 use Rattle.local_db.specs.SystemState.{SystemState}
 use Rattle.local_db.specs.Stores.{IsDatabase, RecoversToSystem}
-use Rattle.system_core.specs.RootReady.{IsReady}
-use Rattle.system_core.specs.RootWriting.{RestsAt}
+use Rattle.system_core.specs.RootReady.{MayBeginJob}
+use Rattle.system_core.specs.RootWriting.{RestsInFormat}
 use Rattle.rollback_stack.specs.Migrated.{is_up_to_date}
 use Rattle.system_core.specs.FixedDirs.{fixed_dirs}
 use Rattle.system_core.specs.Migrating.{IsBrought, IsDamagedStore, RecoversInAFormat}
-use Rattle.system_core.specs.Opening.{IsAtRest, IsRefused, MeetsDamagedLog}
+use Rattle.system_core.specs.Opening.{IsSettledRoot, RefusesToOpen, MeetsDamagedLog}
 use Rattle.tree_journal.specs.Recovered.{IsPathRefusal, RecoversToNone}
 pub use Rattle.system_core.specs.Job.{db_of}
 
@@ -49,7 +49,7 @@ pub record IsReadied {D : Type 0} (disk : DiskModel D) (db : Db) (new : D) (x : 
 
 -- The root is ready. Its fixed directories stood, it recovered to a tree, and it stores each tree to which it recovered in format 2.
 pub record HasReadied {D : Type 0} (disk : DiskModel D) (old new : D) (db : Db) : Type 0 where
-  pub ready : IsReady disk db new
+  pub ready : MayBeginJob disk db new
   pub fixed : fixed_dirs (disk.reads old) ≡ Ok tt
   pub recovered : (x : Tree) × RecoversTo private_directory (disk.reads old) x
   pub readied : (x : Tree) → RecoversTo private_directory (disk.reads old) x → IsReadied disk db new x
@@ -59,13 +59,13 @@ pub record MeetsDamagedStore {D : Type 0} (disk : DiskModel D) (old new : D) (pa
   pub recovered : (x : Tree) × RecoversTo private_directory (disk.reads old) x
   pub damaged : (x : Tree) → RecoversTo private_directory (disk.reads old) x → IsDamagedStore x path
   pub stores : (x : Tree) → RecoversTo private_directory (disk.reads old) x → StoresSame private_directory (disk.reads new) x
-  pub rests : IsAtRest disk new
+  pub rests : IsSettledRoot disk new
 
 -- Why a root isn't made ready. On every disk a refusal is that of a path.
 abbrev pub IsReadyStop : {D : Type 0} → DiskModel D → D → D → Stop → Type 0
 IsReadyStop disk old new stop.Failed = Rose (disk.faults old) (disk.faults new)
 IsReadyStop disk old new stop.Memory = Unit {0}
-IsReadyStop disk old new (stop.Refused why) = IsPathRefusal why × (IsTrue disk.tells → IsRefused disk old new why)
+IsReadyStop disk old new (stop.Refused why) = IsPathRefusal why × (IsTrue disk.tells → RefusesToOpen disk old new why)
 IsReadyStop disk old new (stop.Damaged path) = IsTrue disk.tells → MeetsDamagedLog disk old new path ⊎ MeetsDamagedStore disk old new path
 IsReadyStop disk old new stop.FarFailed = ⊥
 IsReadyStop disk old new (stop.FarDamaged path) = ⊥
@@ -106,5 +106,5 @@ pub record MakesReady {D : Type 0} (disk : DiskModel D) (s : SystemState) (old n
   pub ends : EndsReady s (disk.reads old) result
   pub images : LeavesOnly disk old new (λ image. IsImageOf disk old image ⊎ RecoversToSystem image s)
   pub reads : RecoversToSystem (disk.reads new) s
-  pub rests : OnOk result (RestsAt disk Two s new)
+  pub rests : OnOk result (RestsInFormat disk Two s new)
   pub shown : UnlessFailed disk old new (ShowsOnTheWay (disk.reads old) s.tree)

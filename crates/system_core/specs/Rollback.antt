@@ -14,12 +14,12 @@ use Rattle.local_db.specs.declared.db.Db.{Db}
 use Rattle.local_db.specs.declared.format.Format.TheVariants.{Two}
 use Rattle.local_db.specs.SystemState.{SystemState, is_listed}
 use Rattle.local_db.specs.Stores.{HoldsDatabase}
-use Rattle.system_core.specs.RootWriting.{RecoversToEither, RestsAt, ShowsEither}
+use Rattle.system_core.specs.RootWriting.{RecoversToEitherSystem, RestsInFormat, ShowsEither}
 pub use Rattle.system_core.specs.Job.{db_of}
 
 -- A root that is made ready, with its database: its commit flag isn't set, a crash leaves just what it reads, and this is the
 -- database of its tree, in format 2.
-pub record IsReadyWith {D : Type 0} (disk : DiskModel D) (db : Db) (d : D) : Type 0 where
+pub record MayRollBack {D : Type 0} (disk : DiskModel D) (db : Db) (d : D) : Type 0 where
   pub flag_clear : is_committed private_directory (disk.reads d) ≡ false
   pub synced : IsSynced disk d
   pub holds : HoldsDatabase Two (disk.reads d) db.installed db.oldest db.newest
@@ -34,18 +34,18 @@ HasOnlyRead disk old new = HasRead disk old new (Unit {0})
 
 -- From the system s to the system t, which differs from it at these paths: at every moment a crash leaves a tree that recovers to
 -- one of the two, and so does what the disk reads at the end; after Ok it rests at t.
-pub record Moves {D : Type 0} (disk : DiskModel D) (s t : SystemState) (paths : List Name) (old new : D) (result : Result ℕ Stop) : Type 0 where
-  pub images : LeavesOnly disk old new (RecoversToEither s t)
-  pub reads : RecoversToEither s t (disk.reads new)
-  pub rests : OnOk result (RestsAt disk Two t new)
+pub record MovesSystem {D : Type 0} (disk : DiskModel D) (s t : SystemState) (paths : List Name) (old new : D) (result : Result ℕ Stop) : Type 0 where
+  pub images : LeavesOnly disk old new (RecoversToEitherSystem s t)
+  pub reads : RecoversToEitherSystem s t (disk.reads new)
+  pub rests : OnOk result (RestsInFormat disk Two t new)
   pub shown : UnlessFailed disk old new (ShowsEither s t)
   pub others : KeepsOtherPaths paths (disk.reads old) (disk.reads new)
 
 -- on every disk: a refusal of these kinds, a fault only where the count rose, and none of another disk
-abbrev pub HasCause : (Refusal → Type 0) → Type 0 → Stop → Type 0
-HasCause IsKind rose stop.Failed = rose
-HasCause IsKind rose stop.Memory = Unit {0}
-HasCause IsKind rose (stop.Refused why) = IsKind why
-HasCause IsKind rose (stop.Damaged path) = Unit {0}
-HasCause IsKind rose stop.FarFailed = ⊥
-HasCause IsKind rose (stop.FarDamaged path) = ⊥
+abbrev pub HasRollbackCause : (Refusal → Type 0) → Type 0 → Stop → Type 0
+HasRollbackCause IsKind rose stop.Failed = rose
+HasRollbackCause IsKind rose stop.Memory = Unit {0}
+HasRollbackCause IsKind rose (stop.Refused why) = IsKind why
+HasRollbackCause IsKind rose (stop.Damaged path) = Unit {0}
+HasRollbackCause IsKind rose stop.FarFailed = ⊥
+HasRollbackCause IsKind rose (stop.FarDamaged path) = ⊥

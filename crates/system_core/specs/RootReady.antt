@@ -11,7 +11,7 @@ use Rattle.local_db.specs.Stores.{HoldsDatabase}
 use Rattle.local_db.specs.declared.db.Db.{Db}
 
 -- A root on which a command begins: it is at rest, its fixed directories stand, and it holds this database in format 2.
-pub record IsReady {D : Type 0} (disk : DiskModel D) (db : Db) (d : D) : Type 0 where
+pub record MayBeginJob {D : Type 0} (disk : DiskModel D) (db : Db) (d : D) : Type 0 where
   pub flag_clear : is_committed private_directory (disk.reads d) ≡ false
   pub synced : IsSynced disk d
   pub pinned : IsTrue (is_dir_at (disk.reads d) (parent private_directory))

@@ -45,14 +45,14 @@ abbrev pub IsPut : {D : Type 0} → DiskModel D → List Put → D → D → Typ
 IsPut disk puts old new = IsAtRest disk private_directory (with_targets puts (disk.reads old)) new
 
 -- A root at rest that stores the system: its commit flag isn't set, and a crash leaves just what it reads.
-pub record RestsAt {D : Type 0} (disk : DiskModel D) (f : Format) (s : SystemState) (d : D) : Type 0 where
+pub record RestsInFormat {D : Type 0} (disk : DiskModel D) (f : Format) (s : SystemState) (d : D) : Type 0 where
   pub flag_clear : is_committed private_directory (disk.reads d) ≡ false
   pub synced : IsSynced disk d
   pub stores : StoresIn f (disk.reads d) s
 
 -- the tree recovers to the one system or to the other
-abbrev pub RecoversToEither : SystemState → SystemState → Tree → Type 0
-RecoversToEither s t image = RecoversToSystem image s ⊎ RecoversToSystem image t
+abbrev pub RecoversToEitherSystem : SystemState → SystemState → Tree → Type 0
+RecoversToEitherSystem s t image = RecoversToSystem image s ⊎ RecoversToSystem image t
 
 -- Readers see at each name outside the private directory the node of the one system, that of the other, or nothing where just
 -- one of the two is a directory.
@@ -60,8 +60,8 @@ abbrev pub ShowsEither : SystemState → SystemState → Tree → Type 0
 ShowsEither s t shown = (q : Name) → is_reserved q ≡ false → ShowsNode (get s.tree q) (get t.tree q) (get shown q)
 
 -- outside the private directory each name that isn't a target reads as before
-abbrev pub KeepsOthers : List Put → Tree → Tree → Type 0
-KeepsOthers puts before now = (q : Name) → is_reserved q ≡ false → is_target puts q ≡ false → get now q ≡ get before q
+abbrev pub KeepsNonTargets : List Put → Tree → Tree → Type 0
+KeepsNonTargets puts before now = (q : Name) → is_reserved q ≡ false → is_target puts q ≡ false → get now q ≡ get before q
 
 -- the names of the private directory and the targets
 abbrev pub is_private_or_target : List Put → Name → Bool
@@ -70,12 +70,12 @@ is_private_or_target puts q = is_reserved q || is_target puts q
 -- From the system s to the system t, which is stored in this format: at every moment a crash leaves a tree that recovers to one
 -- of the two, and so does what the disk reads at the end; after Ok it rests at t. However it ends, and at every moment, no name
 -- changes but those of the private directory and the targets.
-pub record Goes {D : Type 0} (disk : DiskModel D) (g : Format) (s t : SystemState) (puts : List Put) (old new : D) (result : Result (Unit {0}) Stop) : Type 0 where
-  pub images : LeavesOnly disk old new (RecoversToEither s t)
-  pub rests : OnOk result (RestsAt disk g t new)
-  pub reads : RecoversToEither s t (disk.reads new)
+pub record TakesRoot {D : Type 0} (disk : DiskModel D) (g : Format) (s t : SystemState) (puts : List Put) (old new : D) (result : Result (Unit {0}) Stop) : Type 0 where
+  pub images : LeavesOnly disk old new (RecoversToEitherSystem s t)
+  pub rests : OnOk result (RestsInFormat disk g t new)
+  pub reads : RecoversToEitherSystem s t (disk.reads new)
   pub shown : UnlessFailed disk old new (ShowsEither s t)
-  pub others : KeepsOthers puts (disk.reads old) (disk.reads new)
+  pub others : KeepsNonTargets puts (disk.reads old) (disk.reads new)
   pub confined : Confined disk (Among (is_private_or_target puts)) old new
 
 -- ---- of trees, also on a root that stores no system
@@ -91,7 +91,7 @@ RecoversToOneOf puts before tree = RecoversTo private_directory tree before ⊎ 
 -- However it ends: at every moment a crash leaves a tree that recovers to a crash image at entry or to the tree with all targets,
 -- and the root as it reads recovers to the tree before or to that one. Readers see both at most, and no name changes but the
 -- journal's own and the targets.
-pub record Writes {D : Type 0} (disk : DiskModel D) (puts : List Put) (old new : D) : Type 0 where
+pub record PutsOnRoot {D : Type 0} (disk : DiskModel D) (puts : List Put) (old new : D) : Type 0 where
   pub images : LeavesOnly disk old new (RecoversToPut disk puts old)
   pub reads : RecoversToOneOf puts (disk.reads old) (disk.reads new)
   pub shown : UnlessFailed disk old new (IsVisible private_directory (disk.reads old) (with_targets puts (disk.reads old)))

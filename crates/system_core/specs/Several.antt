@@ -18,8 +18,8 @@ use Rattle.rollback_stack.specs.Database.{db_below}
 use Rattle.system_core.specs.RootWriting.{IsPut}
 use Rattle.rollback_stack.specs.Inverse.{AreJobsTo, AreOldNodes, IsBackRefusal, IsDamagedJob, IsFirstDamagedContent, no_records}
 use Rattle.system_core.specs.Inserting.{HasBytes, put_of_db}
-use Rattle.system_core.specs.Rollback.{HasOnlyRead, Moves}
-use Rattle.system_core.specs.Tests.{IsFirstEdited, IsFirstOrphan}
+use Rattle.system_core.specs.Rollback.{HasOnlyRead, MovesSystem}
+use Rattle.system_core.specs.Tests.{IsFirstEditedSince, IsFirstWithoutDirectory}
 use Rattle.system_core.specs.Job.{db_of}
 
 -- ---- the writes
@@ -85,8 +85,8 @@ pub record OfTurn (s : SystemState) (number : ℕ) (P : StackItem → Tree → T
 abbrev pub IsRefusalTo : SystemState → ℕ → Refusal → Type 0
 IsRefusalTo s number StackEmpty = s.stack ≡ []
 IsRefusalTo s number (NoJob n) = (n ≡ number) × (s.stack ≢ []) × (HasJob s.stack number → ⊥)
-IsRefusalTo s number (Edited path) = OfTurn s number (λ o tree. IsFirstEdited o tree path)
-IsRefusalTo s number (Parent path) = OfTurn s number (λ o tree. IsFirstOrphan o tree path)
+IsRefusalTo s number (Edited path) = OfTurn s number (λ o tree. IsFirstEditedSince o tree path)
+IsRefusalTo s number (Parent path) = OfTurn s number (λ o tree. IsFirstWithoutDirectory o tree path)
 IsRefusalTo s number _ = ⊥
 
 -- Nothing of a root that stores a system is damaged.
@@ -108,7 +108,7 @@ CanTakeBackTo s number = HasJob s.stack number × CanRollBackAll (jobs_to number
 pub record RollsBackTo {D : Type 0} (disk : DiskModel D) (s : SystemState) (number : ℕ) (db : Db) (old new : D) (result : Result ℕ Stop) : Type 0 where
   pub ends : EndsTo s number db result
   pub only : HasOnlyRead disk old new ⊎ CanTakeBackTo s number
-  pub moves : Moves disk s (rolled_back_to number s) (paths_of_jobs (jobs_to number s.stack)) old new result
+  pub moves : MovesSystem disk s (rolled_back_to number s) (paths_of_jobs (jobs_to number s.stack)) old new result
 
 -- ---- on each root
 

@@ -20,7 +20,7 @@ abbrev pub is_something : Entry → Bool
 is_something e = is_some_by e.was e.mark
 
 -- nothing stood at the path of one of them, and nothing is to stand, and that path is refused as edited
-pub record LacksOne (es : List Entry) (why : Refusal) : Type 0 where
+pub record LacksSomething (es : List Entry) (why : Refusal) : Type 0 where
   pub entry : Entry
   pub among : Contains es entry
   pub nothing : is_something entry ≡ false

@@ -12,9 +12,9 @@ ghost use Rattle.local_db.specs.Stores.{IsDatabase, StoresIn};
 ghost use Rattle.system_core.specs.Answers.{AnswersCall};
 ghost use Rattle.system_core.specs.FixedDirs.{fixed_dirs};
 ghost use Rattle.system_core.specs.Job.{no_answers, sources_of};
-ghost use Rattle.system_core.specs.Lists.{AreAllowed, to_erased, to_list, to_updated};
-ghost use Rattle.system_core.specs.RootReady.{IsReady};
-ghost use Rattle.system_core.specs.Steps.{Ends, HasCause, HasOwnCause, IsErasureStop};
+ghost use Rattle.system_core.specs.Lists.{AllPathsAllowed, to_erased, to_list, to_updated};
+ghost use Rattle.system_core.specs.RootReady.{MayBeginJob};
+ghost use Rattle.system_core.specs.Steps.{StepEnds, HasStepCause, HasOwnCause, IsErasureStop};
 
 use crate::done::Done;
 use crate::running::job;
@@ -51,21 +51,21 @@ pub fn update<T: TreeDisk, C: Contents>(
     options: &Options,
 ) -> Result<Done, Stop>
     requires db { IsDatabase Two db.old.installed db.old.oldest db.old.newest }
-    requires allowed { AreAllowed come.now }
+    requires allowed { AllPathsAllowed come.now }
     requires hash { All (λ (content : carried_content.Carried). content.name ≡ sha1 content.bytes) carried.now }
     requires rising { IsStrictlySortedBy content_cmp carried.now }
-    requires ready { IsTrue T.disk.tells → IsReady T.disk db.old root.old }
+    requires ready { IsTrue T.disk.tells → MayBeginJob T.disk db.old root.old }
     // By each system that the root stores.
     ensures ends { IsTrue T.disk.tells → (s : SystemState) → StoresIn Two (T.disk.reads root.old) s
-        → Ends T.disk (sources_of carried.now (C.contents.answers far.old) options.now) (to_updated s.installed come.now) s root.old root.new db.new result }
+        → StepEnds T.disk (sources_of carried.now (C.contents.answers far.old) options.now) (to_updated s.installed come.now) s root.old root.new db.new result }
     // After Ok a further job may begin, with this database, also where the root stores no system.
-    ensures again { IsTrue T.disk.tells → OnOk result (IsReady T.disk db.new root.new) }
+    ensures again { IsTrue T.disk.tells → OnOk result (MayBeginJob T.disk db.new root.new) }
     ensures fixed { IsTrue T.disk.tells → OnOk result (fixed_dirs (T.disk.reads root.new) ≡ fixed_dirs (T.disk.reads root.old)) }
     // On every disk, also where it tells nothing.
     ensures answers { AnswersCall T.disk (sources_of carried.now (C.contents.answers far.old) options.now) (to_updated db.old.installed come.now) db.old root.old root.new db.new result }
     ensures rules { IsDatabase Two db.new.installed db.new.oldest db.new.newest }
     ensures kept { OnErr result (db.new ≡ db.old) }
-    ensures causes { IfErr result (HasCause C.contents far.old far.new (Rose (T.disk.faults root.old) (T.disk.faults root.new))) }
+    ensures causes { IfErr result (HasStepCause C.contents far.old far.new (Rose (T.disk.faults root.old) (T.disk.faults root.new))) }
     ensures searches { KeepsContents C.contents far.old far.new }
     ensures later { T.disk.faults root.old ≤ T.disk.faults root.new }
 {
@@ -88,13 +88,13 @@ pub fn erase<T: TreeDisk>(
     options: &Options,
 ) -> Result<Done, Stop>
     requires db { IsDatabase Two db.old.installed db.old.oldest db.old.newest }
-    requires ready { IsTrue T.disk.tells → IsReady T.disk db.old root.old }
+    requires ready { IsTrue T.disk.tells → MayBeginJob T.disk db.old root.old }
     ensures ends { IsTrue T.disk.tells → (s : SystemState) → StoresIn Two (T.disk.reads root.old) s
-        → Ends T.disk (sources_of [] no_answers options.now) (to_erased s.installed names.now) s root.old root.new db.new result }
+        → StepEnds T.disk (sources_of [] no_answers options.now) (to_erased s.installed names.now) s root.old root.new db.new result }
     // What an erasure may be refused by.
     ensures refusals { IsTrue T.disk.tells → (s : SystemState) → StoresIn Two (T.disk.reads root.old) s → IfErr result IsErasureStop }
     // After Ok a further job may begin, with this database, also where the root stores no system.
-    ensures again { IsTrue T.disk.tells → OnOk result (IsReady T.disk db.new root.new) }
+    ensures again { IsTrue T.disk.tells → OnOk result (MayBeginJob T.disk db.new root.new) }
     ensures fixed { IsTrue T.disk.tells → OnOk result (fixed_dirs (T.disk.reads root.new) ≡ fixed_dirs (T.disk.reads root.old)) }
     // On every disk, also where it tells nothing.
     ensures answers { AnswersCall T.disk (sources_of [] no_answers options.now) (to_erased db.old.installed names.now) db.old root.old root.new db.new result }
@@ -124,18 +124,18 @@ pub fn adopt<T: TreeDisk, C: Contents>(
     options: &Options,
 ) -> Result<Done, Stop>
     requires db { IsDatabase Two db.old.installed db.old.oldest db.old.newest }
-    requires allowed { AreAllowed list }
-    requires ready { IsTrue T.disk.tells → IsReady T.disk db.old root.old }
+    requires allowed { AllPathsAllowed list }
+    requires ready { IsTrue T.disk.tells → MayBeginJob T.disk db.old root.old }
     ensures ends { IsTrue T.disk.tells → (s : SystemState) → StoresIn Two (T.disk.reads root.old) s
-        → Ends T.disk (sources_of [] (C.contents.answers far.old) options.now) (to_list list) s root.old root.new db.new result }
+        → StepEnds T.disk (sources_of [] (C.contents.answers far.old) options.now) (to_list list) s root.old root.new db.new result }
     // After Ok a further job may begin, with this database, also where the root stores no system.
-    ensures again { IsTrue T.disk.tells → OnOk result (IsReady T.disk db.new root.new) }
+    ensures again { IsTrue T.disk.tells → OnOk result (MayBeginJob T.disk db.new root.new) }
     ensures fixed { IsTrue T.disk.tells → OnOk result (fixed_dirs (T.disk.reads root.new) ≡ fixed_dirs (T.disk.reads root.old)) }
     // On every disk, also where it tells nothing.
     ensures answers { AnswersCall T.disk (sources_of [] (C.contents.answers far.old) options.now) (to_list list) db.old root.old root.new db.new result }
     ensures rules { IsDatabase Two db.new.installed db.new.oldest db.new.newest }
     ensures kept { OnErr result (db.new ≡ db.old) }
-    ensures causes { IfErr result (HasCause C.contents far.old far.new (Rose (T.disk.faults root.old) (T.disk.faults root.new))) }
+    ensures causes { IfErr result (HasStepCause C.contents far.old far.new (Rose (T.disk.faults root.old) (T.disk.faults root.new))) }
     ensures searches { KeepsContents C.contents far.old far.new }
     ensures later { T.disk.faults root.old ≤ T.disk.faults root.new }
 {

@@ -26,7 +26,7 @@ fn push_copy(troves: &mut Vec<Trove>, found: Option<&Trove>) -> Result<(), OutOf
 
 // Copies of the troves that the list has of these names, in their order.
 fn troves_of(alloc: Global, list: &Installed, names: &[Name]) -> Result<Vec<Trove>, OutOfMemory>
-    ensures { IfOk result (λ troves. troves.items ≡ spec.troves_of list.now names.now) }
+    ensures { IfOk result (λ troves. troves.items ≡ spec.troves_named list.now names.now) }
 {
     let mut troves = Vec::new(alloc);
     for name in names {

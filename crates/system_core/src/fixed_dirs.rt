@@ -2,7 +2,7 @@
 ghost use Rattle.std.specs.Prelude.{IsTrue, IfErr};
 ghost use Rattle.rollback_stack.specs.cny-base.Path.{is_path};
 ghost use Rattle.rollback_stack.specs.tree-disk.Steps.{Tests};
-ghost use Rattle.system_core.specs.FixedDirs.{dir_at, fixed_dirs, RefusesPath};
+ghost use Rattle.system_core.specs.FixedDirs.{test_dir, fixed_dirs, RefusesPath};
 
 use rollback_stack::cny_base::{Path, Refusal, Stop, Text, TextFault};
 use rollback_stack::tree_disk::{TreeDisk, steps};
@@ -11,7 +11,7 @@ use std::alloc::Global;
 // Refuses where the path of this text isn't that of a directory.
 fn check_dir<T: TreeDisk>(alloc: Global, root: &mut T, text: &str) -> Result<(), Stop>
     requires { IsTrue (is_path text.now) }
-    ensures tests { Tests T.disk (λ done. done) (λ tree. dir_at tree text.now) root.old root.new result }
+    ensures tests { Tests T.disk (λ done. done) (λ tree. test_dir tree text.now) root.old root.new result }
     // Also where the disk tells nothing.
     ensures refuses { IfErr result RefusesPath }
 {

@@ -6,7 +6,7 @@ ghost use Rattle.std.specs.declared.cmp.Ordering.TheVariants.{Less};
 ghost use Rattle.rollback_stack.specs.journal-log.declared.put.Put as declared;
 ghost use Rattle.rollback_stack.specs.journal-log.Targets.{is_target};
 ghost use Rattle.local_db.specs.Steps.{IsUnion};
-ghost use Rattle.system_core.specs.Inserting.{HasBytes, HasRoom, put_of_db, without};
+ghost use Rattle.system_core.specs.Inserting.{HasBytes, HasDatabaseRoom, put_of_db, without};
 
 use local_db::{Db, database_path, encode_within};
 use rollback_stack::cny_base::{Mode, OutOfMemory, Path};
@@ -16,7 +16,7 @@ use std::alloc::Global;
 
 /// The write of a database that has room, with mode 0644.
 pub(crate) fn database_put(alloc: Global, db: &Db) -> Result<Put, OutOfMemory>
-    requires { HasRoom db.now }
+    requires { HasDatabaseRoom db.now }
     ensures value { IfOk result (λ put. put ≡ put_of_db db.now) }
     ensures bytes { OnOk result (HasBytes db.now) }
 {

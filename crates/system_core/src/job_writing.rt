@@ -16,10 +16,10 @@ ghost use Rattle.rollback_stack.specs.Entries.{AreEntries};
 ghost use Rattle.rollback_stack.specs.Pushing.{IsPushStop};
 ghost use Rattle.rollback_stack.specs.change-set.Contents.{IfRefused};
 ghost use Rattle.system_core.specs.FixedDirs.{fixed_dirs};
-ghost use Rattle.system_core.specs.RootReady.{IsReady};
-ghost use Rattle.system_core.specs.RootWriting.{Goes};
-ghost use Rattle.system_core.specs.Last.{ChangesNothing, IsRefusedLast, PassesLast};
-ghost use Rattle.system_core.specs.JobWriting.{AnswersJob, AreTargets, CanPutJob, CanWriteJob, IsJobFrom, IsJobOf, IsJobStop, JobEnds};
+ghost use Rattle.system_core.specs.RootReady.{MayBeginJob};
+ghost use Rattle.system_core.specs.RootWriting.{TakesRoot};
+ghost use Rattle.system_core.specs.Last.{ChangesNeither, IsRefusedLast, PassesLast};
+ghost use Rattle.system_core.specs.JobWriting.{AnswersJob, AreRecordedTargets, CanPutJob, CanWriteJob, IsJobFrom, IsJobMade, IsJobStop, JobEnds};
 
 use crate::last::{database_of, db_after};
 use crate::names::changed_names;
@@ -65,9 +65,9 @@ fn job_of(
     requires db { IsDatabase Two db.now.installed db.now.oldest db.now.newest }
     requires list { IsInstalled list }
     requires changes { AreChanges db.now.installed list changes.now }
-    ensures some { IfOk result (λ found. IfSome found (λ job. IsJobOf db.now list job.names.items job.db job.bytes)) }
+    ensures some { IfOk result (λ found. IfSome found (λ job. IsJobMade db.now list job.names.items job.db job.bytes)) }
     ensures passes { IfOk result (λ found. IfSome found (λ job. PassesLast db.now list puts.now)) }
-    ensures none { IfOk result (λ found. IfNone found (ChangesNothing db.now list puts.now)) }
+    ensures none { IfOk result (λ found. IfNone found (ChangesNeither db.now list puts.now)) }
     ensures refused { IfErr result (IfRefused (IsRefusedLast db.now list puts.now)) }
 {
     // Troves that are equal by their texts are one trove.
@@ -107,9 +107,9 @@ fn put_job<T: TreeDisk>(
     requires text { bytes ≡ database_bytes Two db.now.installed db.now.oldest db.now.newest }
     requires told { IsTrue T.disk.tells → CanPutJob T.disk targets entries.now root.old }
     ensures goes { IsTrue T.disk.tells → (s : SystemState) → StoresIn Two (T.disk.reads root.old) s → IsJobFrom s targets before.now db.now
-        → Goes T.disk Two s (after_job targets db.now.installed s) targets root.old root.new result }
+        → TakesRoot T.disk Two s (after_job targets db.now.installed s) targets root.old root.new result }
     // Also on a root that stores no system.
-    ensures again { IsTrue T.disk.tells → OnOk result (IsReady T.disk db.now root.new) }
+    ensures again { IsTrue T.disk.tells → OnOk result (MayBeginJob T.disk db.now root.new) }
     ensures fixed { IsTrue T.disk.tells → OnOk result (fixed_dirs (T.disk.reads root.new) ≡ fixed_dirs (T.disk.reads root.old)) }
     ensures stops { IfErr result (IsPushStop T.disk.tells (Rose (T.disk.faults root.old) (T.disk.faults root.new))) }
     ensures later { T.disk.faults root.old ≤ T.disk.faults root.new }
@@ -144,13 +144,13 @@ pub fn write_job<T: TreeDisk>(
     requires db { IsDatabase Two db.old.installed db.old.oldest db.old.newest }
     requires list { IsInstalled list }
     requires changes { AreChanges db.old.installed list changes.now }
-    requires targets { AreTargets puts entries }
+    requires targets { AreRecordedTargets puts entries }
     requires told { IsTrue T.disk.tells → CanWriteJob T.disk db.old puts entries root.old }
     // From each system that the root stores.
     ensures ends { IsTrue T.disk.tells → (s : SystemState) → StoresIn Two (T.disk.reads root.old) s
         → JobEnds T.disk puts list s root.old root.new result }
     // After Ok a further job may begin, with this database, also where the root stores no system.
-    ensures again { IsTrue T.disk.tells → OnOk result (IsReady T.disk db.new root.new) }
+    ensures again { IsTrue T.disk.tells → OnOk result (MayBeginJob T.disk db.new root.new) }
     ensures fixed { IsTrue T.disk.tells → OnOk result (fixed_dirs (T.disk.reads root.new) ≡ fixed_dirs (T.disk.reads root.old)) }
     // On every disk.
     ensures answers { AnswersJob db.old list puts db.new result }

@@ -20,7 +20,7 @@ ghost use Rattle.system_core.specs.Ready.{HasReadied, IsOnTheWay, IsReadyStop, M
 ghost use Rattle.tree_journal.specs.Recovered.{RecoversToNone};
 
 use crate::migrating::load_migrated;
-use crate::opening::open_root;
+use crate::opening::recover_root;
 use local_db::{Db, distinct_databases, migrated_system};
 use rollback_stack::cny_base::Stop;
 use rollback_stack::one_record;
@@ -31,7 +31,7 @@ use std::alloc::Global;
 fn ready_trees<T: TreeDisk>(alloc: Global, root: &mut T) -> Result<Db, Stop>
     ensures { Readies T.disk root.old root.new result }
 {
-    open_root(alloc, root)?;
+    recover_root(alloc, root)?;
     load_migrated(alloc, root)
 }
 

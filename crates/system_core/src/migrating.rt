@@ -1,7 +1,7 @@
 //! A root at rest, brought to format 2, and its database loaded.
 ghost use Rattle.std.specs.Prelude.{◌≤◌, IfErr, IsTrue};
 ghost use Rattle.system_core.specs.Migrating.{IsMigratingStop, Loads, Migrates};
-ghost use Rattle.system_core.specs.Opening.{IsAtRest};
+ghost use Rattle.system_core.specs.Opening.{IsSettledRoot};
 
 use crate::root_writing::write_all;
 use local_db::{Db, load};
@@ -13,7 +13,7 @@ use std::alloc::Global;
 
 // Writes the database and the records of a root of format 1 once more, in format 2, at once. A root of format 2 is only read.
 fn migrate<T: TreeDisk>(alloc: Global, root: &mut T) -> Result<(), Stop>
-    requires { IsTrue T.disk.tells → IsAtRest T.disk root.old }
+    requires { IsTrue T.disk.tells → IsSettledRoot T.disk root.old }
     ensures migrates { IsTrue T.disk.tells → Migrates T.disk root.old root.new result }
     ensures stops { IfErr result (IsMigratingStop T.disk root.old root.new) }
     ensures later { T.disk.faults root.old ≤ T.disk.faults root.new }
@@ -28,7 +28,7 @@ fn migrate<T: TreeDisk>(alloc: Global, root: &mut T) -> Result<(), Stop>
 
 /// Brings a root at rest to format 2, and loads its database.
 pub(crate) fn load_migrated<T: TreeDisk>(alloc: Global, root: &mut T) -> Result<Db, Stop>
-    requires { IsTrue T.disk.tells → IsAtRest T.disk root.old }
+    requires { IsTrue T.disk.tells → IsSettledRoot T.disk root.old }
     ensures { Loads T.disk root.old root.new result }
 {
     migrate(alloc, root)?;

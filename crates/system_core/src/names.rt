@@ -23,7 +23,7 @@ fn name_of(change: &Change) -> &Name
 
 /// The names of the troves that change.
 pub(crate) fn names_of(alloc: Global, changes: &[Change]) -> Result<Vec<Name>, OutOfMemory>
-    ensures { IfOk result (λ names. names.items ≡ spec.names_of changes.now) }
+    ensures { IfOk result (λ names. names.items ≡ spec.names_changed changes.now) }
 {
     let mut names = Vec::new(alloc);
     for change in changes {

@@ -5,7 +5,7 @@ ghost use Rattle.local_db.specs.declared.format.Format.TheVariants.{Two};
 ghost use Rattle.local_db.specs.SystemState.{StackItem, SystemState, newest};
 ghost use Rattle.local_db.specs.Stores.{IsDatabase, StoresIn};
 ghost use Rattle.system_core.specs.FixedDirs.{fixed_dirs};
-ghost use Rattle.system_core.specs.Rollback.{HasCause, IsReadyWith};
+ghost use Rattle.system_core.specs.Rollback.{HasRollbackCause, MayRollBack};
 ghost use Rattle.system_core.specs.Restoring.{IsUnedited, Restores};
 ghost use Rattle.system_core.specs.Several.{HasTakenBackTo, IsRefusalKind, RollsBackTo, StopsTo, counted};
 
@@ -22,7 +22,7 @@ use std::alloc::Global;
 /// but that, `Edited` and `Parent`.
 pub fn rollback<T: TreeDisk>(alloc: Global, root: &mut T, db: &mut Db) -> Result<u32, Stop>
     requires db { IsDatabase Two db.old.installed db.old.oldest db.old.newest }
-    requires ready { IsTrue T.disk.tells → IsReadyWith T.disk db.old root.old }
+    requires ready { IsTrue T.disk.tells → MayRollBack T.disk db.old root.old }
     ensures number { IfOk result (λ number. number ≡ db.old.newest) }
     // By each system that the root stores: one job is taken back.
     ensures rolls { IsTrue T.disk.tells → (s : SystemState) → StoresIn Two (T.disk.reads root.old) s
@@ -35,11 +35,11 @@ pub fn rollback<T: TreeDisk>(alloc: Global, root: &mut T, db: &mut Db) -> Result
     // Where a stop changes nothing, also on a root that stores no system.
     ensures stops { IsTrue T.disk.tells → IfErr result (StopsTo T.disk db.old db.old.newest root.old root.new) }
     // After Ok a further rollback may begin with this database, and a job where the fixed directories stood, also on a root that stores no system.
-    ensures again { IsTrue T.disk.tells → OnOk result (IsReadyWith T.disk db.new root.new) }
+    ensures again { IsTrue T.disk.tells → OnOk result (MayRollBack T.disk db.new root.new) }
     ensures fixed { IsTrue T.disk.tells → OnOk result (fixed_dirs (T.disk.reads root.new) ≡ fixed_dirs (T.disk.reads root.old)) }
     // On every disk.
     ensures rules { IsDatabase Two db.new.installed db.new.oldest db.new.newest }
-    ensures causes { IfErr result (HasCause (IsRefusalKind db.old) (Rose (T.disk.faults root.old) (T.disk.faults root.new))) }
+    ensures causes { IfErr result (HasRollbackCause (IsRefusalKind db.old) (Rose (T.disk.faults root.old) (T.disk.faults root.new))) }
     ensures kept { OnErr result (db.new ≡ db.old) }
     ensures later { T.disk.faults root.old ≤ T.disk.faults root.new }
 {

@@ -1,5 +1,5 @@
 //! A root, opened.
-ghost use Rattle.system_core.specs.Opening.{Opens};
+ghost use Rattle.system_core.specs.Opening.{RecoversRoot};
 
 use crate::fixed_dirs::check_fixed_dirs;
 use local_db::base_path;
@@ -9,8 +9,8 @@ use std::alloc::Global;
 use tree_journal::recover_disk;
 
 /// Tests the fixed directories on the root as it reads, and recovers it.
-pub(crate) fn open_root<T: TreeDisk>(alloc: Global, root: &mut T) -> Result<(), Stop>
-    ensures { Opens T.disk root.old root.new result }
+pub(crate) fn recover_root<T: TreeDisk>(alloc: Global, root: &mut T) -> Result<(), Stop>
+    ensures { RecoversRoot T.disk root.old root.new result }
 {
     check_fixed_dirs(alloc, root)?;
     let directory = base_path(alloc)?;

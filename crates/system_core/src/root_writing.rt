@@ -7,7 +7,7 @@ ghost use Rattle.rollback_stack.specs.journal-log.Targets.{with_targets};
 ghost use Rattle.local_db.specs.declared.format.Format.{Format};
 ghost use Rattle.local_db.specs.SystemState.{SystemState};
 ghost use Rattle.local_db.specs.Stores.{StoresIn};
-ghost use Rattle.system_core.specs.RootWriting.{AreSettled, CanWrite, Goes, IsPut, Writes};
+ghost use Rattle.system_core.specs.RootWriting.{AreSettled, CanWrite, TakesRoot, IsPut, PutsOnRoot};
 
 use local_db::base_path;
 use rollback_stack::cny_base::Stop;
@@ -27,12 +27,12 @@ pub fn write_all<T: TreeDisk>(alloc: Global, root: &mut T, puts: &Puts) -> Resul
     ensures put { IsTrue T.disk.tells → OnOk result (IsPut T.disk puts.now root.old root.new) }
     // From each system that the root stores to the one that it stores with all targets.
     ensures goes { IsTrue T.disk.tells → (f g : Format) (s t : SystemState) → StoresIn f (T.disk.reads root.old) s → AreSettled T.disk root.old s
-        → StoresIn g (with_targets puts.now (T.disk.reads root.old)) t → Goes T.disk g s t puts.now root.old root.new result }
+        → StoresIn g (with_targets puts.now (T.disk.reads root.old)) t → TakesRoot T.disk g s t puts.now root.old root.new result }
     ensures later { T.disk.faults root.old ≤ T.disk.faults root.new }
     ensures failed { IsErrOf result stop.Failed → Rose (T.disk.faults root.old) (T.disk.faults root.new) }
     ensures stops { IfErr result IsDiskStop }
     // However it ends, of trees, also on a root that stores no system.
-    ensures writes { IsTrue T.disk.tells → Writes T.disk puts.now root.old root.new }
+    ensures writes { IsTrue T.disk.tells → PutsOnRoot T.disk puts.now root.old root.new }
 {
     let base = base_path(alloc)?;
     apply(alloc, root, &base, puts)

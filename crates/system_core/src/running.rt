@@ -12,9 +12,9 @@ ghost use Rattle.local_db.specs.Stores.{IsDatabase, StoresIn};
 ghost use Rattle.system_core.specs.Answers.{AnswersCall};
 ghost use Rattle.system_core.specs.FixedDirs.{fixed_dirs};
 ghost use Rattle.system_core.specs.Job.{sources_of};
-ghost use Rattle.system_core.specs.Lists.{AreAllowed, to_list};
-ghost use Rattle.system_core.specs.RootReady.{IsReady};
-ghost use Rattle.system_core.specs.Steps.{Ends, HasCause};
+ghost use Rattle.system_core.specs.Lists.{AllPathsAllowed, to_list};
+ghost use Rattle.system_core.specs.RootReady.{MayBeginJob};
+ghost use Rattle.system_core.specs.Steps.{StepEnds, HasStepCause};
 
 use crate::done::Done;
 use crate::job_writing::write_job;
@@ -40,20 +40,20 @@ pub(crate) fn job<T: TreeDisk, C: Contents>(
     options: &Options,
 ) -> Result<Done, Stop>
     requires db { IsDatabase Two db.old.installed db.old.oldest db.old.newest }
-    requires allowed { AreAllowed list }
+    requires allowed { AllPathsAllowed list }
     requires hash { All (λ (content : carried_content.Carried). content.name ≡ sha1 content.bytes) carried.now }
     requires rising { IsStrictlySortedBy content_cmp carried.now }
-    requires ready { IsTrue T.disk.tells → IsReady T.disk db.old root.old }
+    requires ready { IsTrue T.disk.tells → MayBeginJob T.disk db.old root.old }
     ensures ends { IsTrue T.disk.tells → (s : SystemState) → StoresIn Two (T.disk.reads root.old) s
-        → Ends T.disk (sources_of carried.now (C.contents.answers far.old) options.now) (to_list list) s root.old root.new db.new result }
+        → StepEnds T.disk (sources_of carried.now (C.contents.answers far.old) options.now) (to_list list) s root.old root.new db.new result }
     // After Ok a further job may begin, with this database, also where the root stores no system.
-    ensures again { IsTrue T.disk.tells → OnOk result (IsReady T.disk db.new root.new) }
+    ensures again { IsTrue T.disk.tells → OnOk result (MayBeginJob T.disk db.new root.new) }
     ensures fixed { IsTrue T.disk.tells → OnOk result (fixed_dirs (T.disk.reads root.new) ≡ fixed_dirs (T.disk.reads root.old)) }
     // On every disk, also where it tells nothing.
     ensures answers { AnswersCall T.disk (sources_of carried.now (C.contents.answers far.old) options.now) (to_list list) db.old root.old root.new db.new result }
     ensures rules { IsDatabase Two db.new.installed db.new.oldest db.new.newest }
     ensures kept { OnErr result (db.new ≡ db.old) }
-    ensures causes { IfErr result (HasCause C.contents far.old far.new (Rose (T.disk.faults root.old) (T.disk.faults root.new))) }
+    ensures causes { IfErr result (HasStepCause C.contents far.old far.new (Rose (T.disk.faults root.old) (T.disk.faults root.new))) }
     ensures searches { KeepsContents C.contents far.old far.new }
     ensures later { T.disk.faults root.old ≤ T.disk.faults root.new }
 {

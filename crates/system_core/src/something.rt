@@ -2,8 +2,8 @@
 ghost use Rattle.std.specs.Prelude.{◌≡◌, true, IfErr, OnOk, All};
 ghost use Rattle.rollback_stack.specs.Entries.{entries_of};
 ghost use Rattle.rollback_stack.specs.change-set.Contents.{IfRefused};
-ghost use Rattle.system_core.specs.JobWriting.{IsSomething};
-ghost use Rattle.system_core.specs.Something.{is_something, IsNothing, LacksOne};
+ghost use Rattle.system_core.specs.JobWriting.{StandsBeforeOrAfter};
+ghost use Rattle.system_core.specs.Something.{is_something, IsNothing, LacksSomething};
 
 use job_targets::Entry;
 use rollback_stack::cny_base::{Fault, Refusal, Text};
@@ -35,8 +35,8 @@ fn check_entry(alloc: Global, entry: &Entry) -> Result<(), Fault>
 /// `Edited` for the first path at which nothing stands that is to go. (Of a disk that tells its tree no plan has such a path; of
 /// another one it is a path that was taken away since the plan was made.)
 pub(crate) fn check_something(alloc: Global, entries: &[Entry]) -> Result<(), Fault>
-    ensures something { OnOk result (All IsSomething (entries_of entries.now)) }
-    ensures refused { IfErr result (IfRefused (LacksOne entries.now)) }
+    ensures something { OnOk result (All StandsBeforeOrAfter (entries_of entries.now)) }
+    ensures refused { IfErr result (IfRefused (LacksSomething entries.now)) }
 {
     for entry in entries {
         check_entry(alloc, entry)?;

@@ -7,13 +7,13 @@ ghost use Rattle.rollback_stack.specs.change-set.ChangeSet.{content_cmp};
 ghost use Rattle.dep_closure.specs.Closed.{IsClosed};
 ghost use Rattle.rollback_stack.specs.trove-stream.Installed.{IsRising};
 ghost use Rattle.job_targets.specs.Gathering.{Gathers};
-ghost use Rattle.system_core.specs.JobWriting.{AreTargets, AreTargetsOf};
+ghost use Rattle.system_core.specs.JobWriting.{AreRecordedTargets, AreTargetsOf};
 ghost use Rattle.rollback_stack.specs.trove-stream.Trove.{IsTrove};
 ghost use Rattle.local_db.specs.Installed.{IsInstalled};
 ghost use Rattle.update_job.specs.Changes.{AreChanges};
-ghost use Rattle.system_core.specs.Answers.{IsTestStop, PassesListTests};
+ghost use Rattle.system_core.specs.Answers.{IsJobTestStop, PassesListTests};
 ghost use Rattle.system_core.specs.Job.{IsTested, IsTestRefusal, sources_of};
-ghost use Rattle.system_core.specs.Lists.{AreAllowed};
+ghost use Rattle.system_core.specs.Lists.{AllPathsAllowed};
 
 use crate::closure::test_closure;
 use crate::listed::troves_keep_rules;
@@ -41,7 +41,7 @@ fn tests_of<T: TreeDisk, C: Contents>(
     requires before { IsInstalled before.now }
     requires in_order { IsRising list.now }
     requires closed { IsClosed list.now }
-    requires allowed { AreAllowed list.now }
+    requires allowed { AllPathsAllowed list.now }
     requires hash { All (λ (content : carried_content.Carried). content.name ≡ sha1 content.bytes) carried.now }
     requires rising { IsStrictlySortedBy content_cmp carried.now }
     ensures gathers { Gathers T.disk C.contents
@@ -49,10 +49,10 @@ fn tests_of<T: TreeDisk, C: Contents>(
         (IsTestRefusal (sources_of carried.now (C.contents.answers far.old) options.now) before.now list.now)
         root.old root.new far.old far.new result }
     ensures over { IsTrue T.disk.tells → IfOk result (λ made. AreTargetsOf (T.disk.reads root.old) made.puts made.entries) }
-    ensures targets { IfOk result (λ made. AreTargets made.puts made.entries) }
+    ensures targets { IfOk result (λ made. AreRecordedTargets made.puts made.entries) }
     ensures list { OnOk result (IsInstalled list.now) }
     ensures passes { OnOk result (PassesListTests list.now) }
-    ensures stops { IfErr result (IsTestStop list.now) }
+    ensures stops { IfErr result (IsJobTestStop list.now) }
     ensures troves { All IsTrove list.now }
 {
     planned_is_seen();
@@ -78,7 +78,7 @@ pub(crate) fn tested<T: TreeDisk, C: Contents>(
 ) -> Result<Targets, Stop>
     requires before { IsInstalled before.now }
     requires changes { AreChanges before.now list.now changes.now }
-    requires allowed { AreAllowed list.now }
+    requires allowed { AllPathsAllowed list.now }
     requires hash { All (λ (content : carried_content.Carried). content.name ≡ sha1 content.bytes) carried.now }
     requires rising { IsStrictlySortedBy content_cmp carried.now }
     ensures gathers { Gathers T.disk C.contents
@@ -87,10 +87,10 @@ pub(crate) fn tested<T: TreeDisk, C: Contents>(
         root.old root.new far.old far.new result }
     ensures over { IsTrue T.disk.tells → IfOk result (λ made. AreTargetsOf (T.disk.reads root.old) made.puts made.entries) }
     // On every disk, also where it tells nothing.
-    ensures targets { IfOk result (λ made. AreTargets made.puts made.entries) }
+    ensures targets { IfOk result (λ made. AreRecordedTargets made.puts made.entries) }
     ensures list { OnOk result (IsInstalled list.now) }
     ensures passes { OnOk result (PassesListTests list.now) }
-    ensures stops { IfErr result (IsTestStop list.now) }
+    ensures stops { IfErr result (IsJobTestStop list.now) }
     ensures troves { All IsTrove list.now }
 {
     test_closure(alloc, before, list, changes)?;

@@ -112,16 +112,16 @@ names_start set changes empty =
 
 -- ---- the state at the end, by the last moment at which all was synced
 
-pub record IsSettled (s : State) : Type 0 where
+pub record IsAllSynced (s : State) : Type 0 where
   pub synced : s.synced ≡ s.reads
   pub unsynced : (p : Name) → s.unsynced p ≡ false
 
 settled_step : (c : Change) (s : State) (v : Bool) → v ≡ true
-    → IsSettled (cond v (settled (tree_after c s.reads)) (record { reads = tree_after c s.reads; synced = s.synced; unsynced = λ p. s.unsynced p || names_of c p }))
+    → IsAllSynced (cond v (settled (tree_after c s.reads)) (record { reads = tree_after c s.reads; synced = s.synced; unsynced = λ p. s.unsynced p || names_of c p }))
 settled_step c s true h = record { synced = refl; unsynced = λ p. refl }
 settled_step c s false h = absurd (cc h)
 
-settled_by : (cs : List Change) (k : ℕ) (s : State) (d : Change) → k < length cs → settles (get_or cs k d) ≡ true → IsSettled (replay (take (suc k) cs) s)
+settled_by : (cs : List Change) (k : ℕ) (s : State) (d : Change) → k < length cs → settles (get_or cs k d) ≡ true → IsAllSynced (replay (take (suc k) cs) s)
 settled_by [] k s d h is = absurd (omega arith)
 settled_by (c ∷ cs) zero s d h is = settled_step c s (settles c) is
 settled_by (c ∷ cs) (suc k) s d h is = settled_by cs k (step c s) d (omega arith) is
@@ -146,7 +146,7 @@ replay_append : (xs ys : List Change) (s : State) → replay (xs ++ ys) s ≡ re
 replay_append [] ys s = refl
 replay_append (c ∷ xs) ys s = replay_append xs ys (step c s)
 
-settled_mark : (changes : List Change) (mark : ℕ) (s : State) → IsSettled s → mark ≤ length changes → ((d : Change) → 0 < mark → settles (get_or changes (mark - 1) d) ≡ true) → IsSettled (replay (take mark changes) s)
+settled_mark : (changes : List Change) (mark : ℕ) (s : State) → IsAllSynced s → mark ≤ length changes → ((d : Change) → 0 < mark → settles (get_or changes (mark - 1) d) ≡ true) → IsAllSynced (replay (take mark changes) s)
 settled_mark changes zero s start h last = start
 settled_mark [] (suc k) s start h last = absurd (omega arith)
 settled_mark (c ∷ changes) (suc k) s start h last =
@@ -155,7 +155,7 @@ settled_mark (c ∷ changes) (suc k) s start h last =
 
 module _ (first : List (Name × Node)) (changes : List Change) (mark : ℕ) (within : mark ≤ length changes) (after : list_all keeps (drop mark changes) ≡ true)
     (last : (d : Change) → 0 < mark → settles (get_or changes (mark - 1) d) ≡ true) where
-  marked : IsSettled (state_of first (take mark changes))
+  marked : IsAllSynced (state_of first (take mark changes))
   marked = settled_mark changes mark (settled (from_entries first)) (record { synced = refl; unsynced = λ p. refl }) within last
 
   whole : state_of first changes ≡ replay (drop mark changes) (state_of first (take mark changes))

@@ -1,7 +1,7 @@
 use Rattle.std.proofs.Common.{◌≡◌, ◌≤◌, length, map, arith}
 use Rattle.std.proofs.lemmas.Grind.{common_steps}
 use Rattle.std.specs.Prelude.{string_bytes}
-use Rattle.conary_cli.specs.Words.{AreGiven, IsUpdateWith, ReadsOnly}
+use Rattle.conary_cli.specs.Words.{AreGivenSpecs, IsUpdateWith, ReadsOnly}
 use Rattle.conary_cli.proofs.Reading.{passed_on}
 use Rattle.conary_cli.proofs.SpecLists.{no_update_of_many, no_update_of_none, specs_part, update_only}
 use Rattle.cny_version.proofs.cny-base.Passing.{err_is}
@@ -23,7 +23,7 @@ pub returns-in_err-specs : goal.returns-in_err-specs
 returns-in_err-specs c =
     let words = map string_bytes c.args.words.now in
     err_is (ReadsOnly (IsUpdateWith c.args.options words)) c.from_residual.result c.in_err-specs.field-0.0 c.from_residual.ensures.1
-    (passed_on (AreGiven words) (IsUpdateWith c.args.options words) (specs_part c.args.options words) c.in_err-specs.field-0.0 c.in_err-specs.ensures)
+    (passed_on (AreGivenSpecs words) (IsUpdateWith c.args.options words) (specs_part c.args.options words) c.in_err-specs.field-0.0 c.in_err-specs.ensures)
 
 pub returns : goal.returns
 returns c =

@@ -2,7 +2,7 @@ use Rattle.std.proofs.Common.{ℕ, List, [], get_or, arith}
 use Rattle.std.proofs.lemmas.List.Elements.{Contains-get_or}
 use Rattle.repo_load.specs.Contents.{IsDamagedContent}
 use Rattle.repo_load.proofs.LooksLaws.{looks_answer, looks_memory, looks_stop, looks_then}
-use Rattle.repository.specs.Between.{AreStored}
+use Rattle.repository.specs.Between.{AreStoredIn}
 use Rattle.repository.specs.BetweenSteps.{IsStoredAs}
 use Rattle.repository.proofs.Fitting.{hashed_push, names_push, stored_push}
 use Rattle.repository.proofs.between_contents.read_contents.Goals as goal
@@ -11,7 +11,7 @@ pub returns-in_err-content-clause-looks : goal.returns-in_err-content-clause-loo
 returns-in_err-content-clause-looks g c =
     let name : List ℕ = get_or c.args.names.now c.loop-name.name-index [] in
     looks_then g.met.D.TreeDisk.laws c.loop-name.invariant.looks
-    (looks_stop {R = AreStored} {S = IsDamagedContent c.args.catalogue.now.troves name} c.in_err-content.ensures.looks c.from_residual.ensures.1 (λ tells path p. p))
+    (looks_stop {R = AreStoredIn} {S = IsDamagedContent c.args.catalogue.now.troves name} c.in_err-content.ensures.looks c.from_residual.ensures.1 (λ tells path p. p))
     (λ tells so_far z p. p)
     (λ tells so_far path damaged. record { name = name; among = Contains-get_or c.args.names.now c.loop-name.name-index [] (omega arith); damaged = damaged })
 
@@ -19,7 +19,7 @@ pub returns-in_err-push-clause-looks : goal.returns-in_err-push-clause-looks
 returns-in_err-push-clause-looks g c =
     let name : List ℕ = get_or c.args.names.now c.loop-name.name-index [] in
     looks_then g.met.D.TreeDisk.laws c.loop-name.invariant.looks
-    (looks_memory {R = AreStored} {S = IsDamagedContent c.args.catalogue.now.troves name} c.in_ok-content.ensures.looks c.from_residual-in_err-push.ensures.1)
+    (looks_memory {R = AreStoredIn} {S = IsDamagedContent c.args.catalogue.now.troves name} c.in_ok-content.ensures.looks c.from_residual-in_err-push.ensures.1)
     (λ tells so_far z p. p)
     (λ tells so_far path damaged. record { name = name; among = Contains-get_or c.args.names.now c.loop-name.name-index [] (omega arith); damaged = damaged })
 

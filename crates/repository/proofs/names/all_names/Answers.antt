@@ -1,7 +1,7 @@
 use Rattle.std.proofs.Common.{List, Contains, arith, subst}
 use Rattle.std.specs.Prelude.{◌↔◌}
 use Rattle.repo_load.specs.trove-stream.declared.parts.TroveParts.{TroveParts}
-use Rattle.repository.specs.Between.{Sends}
+use Rattle.repository.specs.Between.{SendsContent}
 use Rattle.repository.proofs.Gathered.{gathered_more, none_sent}
 use Rattle.change_rel.proofs.Members.{take_all}
 use Rattle.repository.proofs.names.all_names.Goals as goal
@@ -15,4 +15,4 @@ loop-trove-preserved c =
 
 pub returns : goal.returns
 returns c = λ name.
-    subst (λ (l : List TroveParts). Contains c.loop-trove.names.items name ↔ Sends c.args.old.now l name) (take_all c.loop-trove.trove-index c.args.fresh.now (omega arith)) (c.loop-trove.invariant name)
+    subst (λ (l : List TroveParts). Contains c.loop-trove.names.items name ↔ SendsContent c.args.old.now l name) (take_all c.loop-trove.trove-index c.args.fresh.now (omega arith)) (c.loop-trove.invariant name)

@@ -4,7 +4,7 @@ use Rattle.change_set.specs.declared.change.Carried.{Carried}
 use Rattle.change_set.specs.ChangeSet.{content_cmp}
 use Rattle.repo_index.specs.Catalogue.{has_content}
 use Rattle.repo_load.proofs.LooksLaws.{looks_damage, looks_stop}
-use Rattle.repository.specs.Between.{AreStored}
+use Rattle.repository.specs.Between.{AreStoredIn}
 use Rattle.repository.specs.Damage.{IsDamagedBetween}
 use Rattle.repository.specs.BetweenSteps.{AllFit, HasOther, IsDamagedAmong}
 use Rattle.repository.proofs.BetweenCarrying.{contents_are, damaged_name, damaged_size, names_committed, rising_of}
@@ -19,7 +19,7 @@ pub returns-in_err-contents-clause-looks : goal.returns-in_err-contents-clause-l
 returns-in_err-contents-clause-looks g c =
     let troves = c.args.catalogue.now.troves in
     let tree = g.D.TreeDisk.disk.reads c.args.disk.now in
-    looks_stop {R = AreStored} {S = IsDamagedBetween c.args.old.now c.args.fresh.now} c.in_err-contents.ensures.looks c.from_residual-in_err-contents.ensures.1
+    looks_stop {R = AreStoredIn} {S = IsDamagedBetween c.args.old.now c.args.fresh.now} c.in_err-contents.ensures.looks c.from_residual-in_err-contents.ensures.1
     (λ tells path damaged. damaged_name troves c.args.old.now c.args.fresh.now c.in_ok-names.names c.requires.committed c.in_ok-names.ensures tree path
     (subst (λ (l : List (List ℕ)). IsDamagedAmong troves l tree path) c.get.ensures damaged))
 

@@ -2,7 +2,7 @@ use Rattle.std.proofs.Common.{List, Option, ◌++◌, option_to_list, ap, ◌∙
 use Rattle.std.proofs.lemmas.List.{take_all}
 use Rattle.rollback_stack.specs.trove-stream.Installed.{trove_of}
 use Rattle.rollback_stack.specs.trove-stream.declared.parts.TroveParts.{TroveParts}
-use Rattle.system_core.specs.Changing.{troves_of}
+use Rattle.system_core.specs.Changing.{troves_named}
 use Rattle.system_core.proofs.ListChanges.{troves_more}
 use Rattle.system_core.proofs.closure.troves_of.Goals as goal
 
@@ -18,4 +18,4 @@ loop-name-preserved c =
     ∙ troves_more list names i x c.loop-name-test.true c.name-item.is
 
 pub returns : goal.returns
-returns c = c.loop-name.invariant ∙ ap (troves_of c.args.list.now) (take_all c.loop-name.name-index c.args.names.now (omega arith))
+returns c = c.loop-name.invariant ∙ ap (troves_named c.args.list.now) (take_all c.loop-name.name-index c.args.names.now (omega arith))

@@ -1,6 +1,6 @@
 use Rattle.std.proofs.Common.{refl, codes}
 use Rattle.rollback_stack.proofs.tree-disk.StepLaws.{tests_then}
-use Rattle.system_core.specs.FixedDirs.{dir_at, fixed_dirs}
+use Rattle.system_core.specs.FixedDirs.{test_dir, fixed_dirs}
 use Rattle.system_core.proofs.FixedPaths.{lib_text, var_text}
 use Rattle.system_core.proofs.fixed_dirs.check_fixed_dirs.Goals as goal
 
@@ -14,5 +14,5 @@ pub returns-clause-tests : goal.returns-clause-tests
 returns-clause-tests g c =
     let laws = g.met.T.TreeDisk.laws in
     let first = c.in_ok-check_dir.ensures.tests in
-    let second = tests_then laws {goal = λ tree. dir_at tree (codes "/var")} first c.in_ok-check_dir-2.ensures.tests (λ told. refl) in
+    let second = tests_then laws {goal = λ tree. test_dir tree (codes "/var")} first c.in_ok-check_dir-2.ensures.tests (λ told. refl) in
     tests_then laws {goal = fixed_dirs} second c.check_dir-3.ensures.tests (λ told. rw (first.found told, second.found told) refl)

@@ -1,6 +1,6 @@
 use Rattle.std.proofs.Common.{ℕ, List, [], ◌∷◌, ◌++◌, ap, ◌∙◌, arith}
 use Rattle.std.proofs.lemmas.List.{take_all}
-use Rattle.system_core.specs.Changing.{names_of}
+use Rattle.system_core.specs.Changing.{names_changed}
 use Rattle.system_core.proofs.ListChanges.{names_more}
 use Rattle.system_core.proofs.names.names_of.Goals as goal
 
@@ -11,4 +11,4 @@ loop-change-preserved c =
     ∙ names_more c.args.changes.now c.loop-change.change-index c.change-item.result c.in_ok-copy.field-0 c.loop-change-test.true c.change-item.is (c.in_ok-copy.ensures ∙ c.name_of.ensures)
 
 pub returns : goal.returns
-returns c = c.loop-change.invariant ∙ ap names_of (take_all c.loop-change.change-index c.args.changes.now (omega arith))
+returns c = c.loop-change.invariant ∙ ap names_changed (take_all c.loop-change.change-index c.args.changes.now (omega arith))

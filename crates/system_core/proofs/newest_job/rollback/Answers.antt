@@ -5,7 +5,7 @@ use Rattle.local_db.proofs.cny-base.Faults.{passed_on}
 use Rattle.local_db.specs.SystemState.{newest}
 use Rattle.system_core.specs.Restoring.{Restores}
 use Rattle.system_core.specs.RestoringAll.{AreUnedited, RestoresTo}
-use Rattle.system_core.specs.Rollback.{HasCause}
+use Rattle.system_core.specs.Rollback.{HasRollbackCause}
 use Rattle.system_core.specs.Several.{HasJob, HasTakenBackTo, IsRefusalKind, RollsBackTo, StopsTo, counted}
 use Rattle.system_core.proofs.EndingAll.{err_is}
 use Rattle.system_core.proofs.OneJob.{just_one, newest_cause, newest_is, one_restored}
@@ -45,7 +45,7 @@ returns-in_err-rollback_to-clause-causes g c =
     let db = c.args.db.now in
     let rose = Rose (disk.faults c.args.root.now) (disk.faults c.rollback_to.new.root) in
     let e = c.in_err-rollback_to.field-0.0 in
-    passed_on (HasCause (IsRefusalKind db) rose) e c.from_residual.result
+    passed_on (HasRollbackCause (IsRefusalKind db) rose) e c.from_residual.result
     (newest_cause db c.requires.db rose e c.in_err-rollback_to.ensures.causes) c.from_residual.ensures.1
 
 pub returns-clause-rolls : goal.returns-clause-rolls

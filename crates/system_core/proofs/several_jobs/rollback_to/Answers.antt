@@ -5,7 +5,7 @@ use Rattle.rollback_stack.proofs.tree-disk.Moments.{rose_before}
 use Rattle.rollback_stack.proofs.Later.{read_as}
 use Rattle.local_db.proofs.cny-base.Faults.{passed_on}
 use Rattle.system_core.specs.RestoringAll.{RestoresTo}
-use Rattle.system_core.specs.Rollback.{HasCause}
+use Rattle.system_core.specs.Rollback.{HasRollbackCause}
 use Rattle.system_core.specs.Several.{IsRefusalKindTo, RollsBackTo, StopsTo, jobs_to, paths_of_jobs, rolled_back_to}
 use Rattle.system_core.proofs.EndingAll.{cause_to, cause_written, done_restores_to, done_rolls_to, err_is, failed_restores_to, failed_rolls_to, restores_to_err, stops_to, taken_back_to, written_to}
 use Rattle.system_core.proofs.Moving.{still}
@@ -63,7 +63,7 @@ returns-in_err-step-clause-causes g c =
     let old = c.args.root.now in
     let rose = Rose (disk.faults old) (disk.faults c.prepare_to.new.disk) in
     let e = c.in_err-step.field-0.0 in
-    passed_on (HasCause (IsRefusalKindTo c.args.db.now c.args.number) rose) e c.from_residual.result
+    passed_on (HasRollbackCause (IsRefusalKindTo c.args.db.now c.args.number) rose) e c.from_residual.result
     (cause_to disk.tells (disk.reads old) c.args.db.now c.args.number rose e c.in_err-step.ensures.stops) c.from_residual.ensures.1
 
 pub write_all-requires : goal.write_all-requires
@@ -115,7 +115,7 @@ returns-in_err-write_all-clause-causes g c =
     let new = c.write_all.new.root in
     let rose = Rose (disk.faults old) (disk.faults new) in
     let e = c.in_err-write_all.field-0.0 in
-    passed_on (HasCause (IsRefusalKindTo c.args.db.now c.args.number) rose) e c.from_residual-in_err-write_all.result
+    passed_on (HasRollbackCause (IsRefusalKindTo c.args.db.now c.args.number) rose) e c.from_residual-in_err-write_all.result
     (cause_written (IsRefusalKindTo c.args.db.now c.args.number) rose e c.in_err-write_all.ensures.stops (λ failed. rose_before (disk.faults old) (disk.faults mid) (disk.faults new) c.in_ok-step.ensures.later (c.in_err-write_all.ensures.failed (ap Err failed)))) c.from_residual-in_err-write_all.ensures.1
 
 pub returns-clause-rolls : goal.returns-clause-rolls

@@ -7,16 +7,16 @@ use Rattle.rollback_stack.specs.cny-base.declared.refusal.Fault.TheVariants as f
 use Rattle.job_targets.specs.declared.entry.Entry.{Entry}
 use Rattle.rollback_stack.specs.Entries.{entry_of}
 use Rattle.rollback_stack.specs.change-set.Contents.{IfRefused}
-use Rattle.system_core.specs.JobWriting.{IsSomething}
-use Rattle.system_core.specs.Something.{IsNothing, LacksOne}
+use Rattle.system_core.specs.JobWriting.{StandsBeforeOrAfter}
+use Rattle.system_core.specs.Something.{IsNothing, LacksSomething}
 use Rattle.system_core.proofs.Lacking.{IsSomeEntry, something_of}
 use Rattle.system_core.proofs.something.check_something.Goals as goal
 
-lacking : {T : Type 0} (es : List Entry) (k : ℕ) (e : Entry) (why : Fault) (r : Result T Fault) → k < length es → e ≡ get_or es k e → IsErrAnd r (λ f. f ≡ why) → IfRefused (IsNothing e) why → IfErr r (IfRefused (LacksOne es))
+lacking : {T : Type 0} (es : List Entry) (k : ℕ) (e : Entry) (why : Fault) (r : Result T Fault) → k < length es → e ≡ get_or es k e → IsErrAnd r (λ f. f ≡ why) → IfRefused (IsNothing e) why → IfErr r (IfRefused (LacksSomething es))
 lacking es k e why (Ok x) lt is same nothing = absurd same
-lacking es k e why (Err f) lt is same nothing = subst (IfRefused (LacksOne es)) (sym same) (by why nothing)
+lacking es k e why (Err f) lt is same nothing = subst (IfRefused (LacksSomething es)) (sym same) (by why nothing)
   where
-    by : (why : Fault) → IfRefused (IsNothing e) why → IfRefused (LacksOne es) why
+    by : (why : Fault) → IfRefused (IsNothing e) why → IfRefused (LacksSomething es) why
     by (fault.Refused refusal) nothing = record { entry = e; among = (k, lt, sym is); nothing = nothing.0; refusal_is = nothing.1 }
     by fault.Memory nothing = tt
 
@@ -32,4 +32,4 @@ returns-in_err-check_entry-clause-refused c =
 pub returns-clause-something : goal.returns-clause-something
 returns-clause-something c =
     let past : length c.args.entries.now ≤ c.loop-entry.entry-index = omega arith in
-    All-map IsSomething entry_of c.args.entries.now (subst (All IsSomeEntry) (take_all c.loop-entry.entry-index c.args.entries.now past) c.loop-entry.invariant)
+    All-map StandsBeforeOrAfter entry_of c.args.entries.now (subst (All IsSomeEntry) (take_all c.loop-entry.entry-index c.args.entries.now past) c.loop-entry.invariant)

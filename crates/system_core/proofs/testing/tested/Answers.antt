@@ -5,8 +5,8 @@ use Rattle.rollback_stack.specs.trove-stream.Trove.{IsTrove}
 use Rattle.dep_closure.specs.Closed.{IsClosed}
 use Rattle.rollback_stack.specs.trove-stream.Installed.{IsRising}
 use Rattle.local_db.specs.Installed.{IsInstalled}
-use Rattle.system_core.specs.Answers.{IsTestStop, PassesListTests}
-use Rattle.system_core.specs.Lists.{AreAllowed}
+use Rattle.system_core.specs.Answers.{IsJobTestStop, PassesListTests}
+use Rattle.system_core.specs.Lists.{AllPathsAllowed}
 use Rattle.system_core.proofs.AnswerLaws.{closed_answer, stop_answer}
 use Rattle.system_core.proofs.TestLaws.{closed_stop, gathers_lists}
 use Rattle.system_core.proofs.testing.tested.Goals as goal
@@ -29,7 +29,7 @@ pub tests_of-requires-clause-closed : goal.tests_of-requires-clause-closed
 tests_of-requires-clause-closed g c = subst IsClosed (sym c.troves-2.ensures.value) c.in_ok-test_closure.ensures.ok
 
 pub tests_of-requires-clause-allowed : goal.tests_of-requires-clause-allowed
-tests_of-requires-clause-allowed g c = subst AreAllowed (sym c.troves-2.ensures.value) c.requires.allowed
+tests_of-requires-clause-allowed g c = subst AllPathsAllowed (sym c.troves-2.ensures.value) c.requires.allowed
 
 pub returns-clause-gathers : goal.returns-clause-gathers
 returns-clause-gathers g c = gathers_lists _ c.args.before.now c.troves.result.now c.args.list.now c.troves-2.result.now c.troves.ensures.value c.troves-2.ensures.value c.tests_of.ensures.gathers
@@ -41,4 +41,4 @@ pub returns-clause-passes : goal.returns-clause-passes
 returns-clause-passes g c = subst (λ (l : List TroveParts). OnOk c.tests_of.result (PassesListTests l)) c.troves-2.ensures.value c.tests_of.ensures.passes
 
 pub returns-clause-stops : goal.returns-clause-stops
-returns-clause-stops g c = subst (λ (l : List TroveParts). IfErr c.tests_of.result (IsTestStop l)) c.troves-2.ensures.value c.tests_of.ensures.stops
+returns-clause-stops g c = subst (λ (l : List TroveParts). IfErr c.tests_of.result (IsJobTestStop l)) c.troves-2.ensures.value c.tests_of.ensures.stops
