@@ -6,8 +6,8 @@
 
 The lines are said by topic, by files of tools/cases/, each with a model of tools/model/.
 """
-from tools.cases import catalogues, closures, jobs, local_changes, plans
+from tools.cases import catalogues, closures, completions, jobs, local_changes, plans
 from tools.lines.words import say
 
 if __name__ == "__main__":
-    say(__doc__, (line for topic in (catalogues, closures, jobs, local_changes, plans) for line in topic.lines()))
+    say(__doc__, (line for topic in (catalogues, closures, jobs, completions, local_changes, plans) for line in topic.lines()))

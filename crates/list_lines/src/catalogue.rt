@@ -122,7 +122,8 @@ pub fn has_content(catalogue: &Catalogue, line: &mut Line, answer: &mut Answer) 
     answer.holds(catalogue.has_content(&name));
 }
 
-fn reached(troves: &Troves, answer: &mut Answer) {
+/// `ok` and the ids of the troves that some reach, a field each.
+pub fn reached(troves: &Troves, answer: &mut Answer) {
     ids(troves.get(), answer);
 }
 

@@ -16,8 +16,8 @@ fn trove(trove: &Trove, answer: &mut Answer) {
     answer.sha1(stream.get());
 }
 
-// `ok` and a field for each trove.
-fn listed(list: &Installed, answer: &mut Answer) {
+/// `ok` and a field for each trove.
+pub fn listed(list: &Installed, answer: &mut Answer) {
     answer.each(list.troves(), trove);
 }
 

@@ -1,5 +1,5 @@
-//! Answers calls on lists of troves: on a catalogue, on specifications and configuration files, on a closure and on whole lists, on
-//! what updates and erasures make of installed lists, on local changes, and on fingerprints, plans, their write sets and
+//! Answers calls on lists of troves: on a catalogue, on specifications, configuration files and system models, on a closure and on whole
+//! lists, on what updates and erasures make of installed lists, on updates that complete themselves, on local changes, and on fingerprints, plans, their write sets and
 //! verifications over trees in memory. A line of standard input is the name of a call and its arguments, a tab before each; the line
 //! of standard output with its number is what the call answers. A catalogue, which is empty at first, and a closure, which is of no
 //! troves at first, go on from line to line. Input and wanted output come from tools/lines/list_lines.py, which is made from the rules
@@ -8,9 +8,11 @@
 
 mod catalogue;
 mod closure;
+mod completing;
 mod jobs;
 mod local;
 mod marks;
+mod models;
 mod plans;
 mod shadows;
 mod specs;
@@ -53,6 +55,8 @@ fn of_lists(lists: &mut Lists, line: &mut Line, answer: &mut Answer) {
         "has_content" => catalogue::has_content(&lists.catalogue, line, answer),
         "expand" => catalogue::expanded(&lists.catalogue, line, answer),
         "resolve" => specs::resolved(&lists.catalogue, line, answer),
+        "completed" => completing::completed(&lists.catalogue, line, answer),
+        "wanted" => models::made(&lists.catalogue, line, answer),
         "moved" => shadows::move_onto(&lists.catalogue, line, answer),
         "trove" => lists.closing.wait(line, answer),
         "closed" => lists.closing.closed(line.alloc(), answer),
@@ -68,6 +72,7 @@ impl Calls for Lists {
         match line.name() {
             "spec" => specs::spec(line, answer),
             "config" => specs::config(line, answer),
+            "model" => models::model(line, answer),
             "updated" => jobs::update(line, answer),
             "erased" => jobs::erase(line, answer),
             "changed" => jobs::compare(line, answer),

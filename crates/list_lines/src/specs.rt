@@ -48,10 +48,10 @@ fn id(id: &TroveId, answer: &mut Answer) {
     answer.id(id);
 }
 
-// The copy of a configuration of the labels and the flavor of two arguments.
-fn config_of(line: &mut Line) -> Option<Config> {
-    let labels = Labels::new(line.list(1));
-    let flavor = line.value(2)?;
+/// The copy of a configuration of the labels and the flavor of two arguments.
+pub fn config_of(line: &mut Line, labels: usize, flavor: usize) -> Option<Config> {
+    let labels = Labels::new(line.list(labels));
+    let flavor = line.value(flavor)?;
     let copy = Config { labels, flavor }.copy(line.alloc());
     line.kept(copy)
 }
@@ -59,7 +59,7 @@ fn config_of(line: &mut Line) -> Option<Config> {
 /// `resolve SPEC LABELS FLAVOR`, with a copy of the configuration of these labels and this flavor: the id.
 pub fn resolved(catalogue: &Catalogue, line: &mut Line, answer: &mut Answer) {
     if let Some(spec) = line.read(0, Spec::read) {
-        if let Some(config) = config_of(line) {
+        if let Some(config) = config_of(line, 1, 2) {
             let text = line.text(0);
             answer.outcome(resolve(line.alloc(), catalogue, &spec, text, &config), id);
         }
