@@ -1,5 +1,5 @@
 """Lines of list_lines on fingerprints, plans, their write sets and verifications, and the answers by tools/model/plans.py; how often a
-plan looks at the disk and reads it, and how often a write set asks for contents and files, from what docs/ARCHITECTURE.md says of their
+plan looks at the disk and reads it, and how often a write set asks for contents and files, from what docs/DESIGN.md says of their
 cost. In plans.txt there are cases that are told one by one: what stands, and the troves before and, but for verifications, after, as
 tools/cases/rows.py reads them, and then what else is given.
 """

@@ -1,5 +1,6 @@
 #!/usr/bin/env python3
-"""Prints what the documents tell of the crates from the sources: the levels of crates.txt, and the table of crates.
+"""Prints what the documents tell of the crates from the sources: the levels of crates.txt, the table of crates, and what their definitions
+are about.
 
 In a document such a part stands between two lines, `<!-- printed by tools/gate/book.py: NAME -->` and `<!-- end -->`.
 
@@ -11,9 +12,9 @@ import re
 import sys
 import textwrap
 
-from crates import named, root_file
+from crates import files_in, named, root_file, text_of
 
-DOCUMENTS = ("docs/ARCHITECTURE.md",)
+DOCUMENTS = ("docs/DESIGN.md", "docs/DEFINITIONS.md")
 PART = re.compile(r"(<!-- printed by tools/gate/book\.py: (\w+) -->)\n.*?<!-- end -->", re.DOTALL)
 
 
@@ -42,7 +43,22 @@ def table():
     return rows + [f"| `{crate}` | {', '.join(f'`{it}`' for it in on) or 'nothing'} | {heading(crate)} |" for crate, on in named().items()]
 
 
-PARTS = {"levels": levels, "crates": table}
+def definitions():
+    """What each file of `specs/` is about, and which definitions clauses can cite from it, crate by crate."""
+    rows = []
+    for crate in named():
+        found = []
+        for path in files_in("specs", crate):
+            about = re.match(r"-- ?(.*)", text_of(path))
+            names = re.findall(r"^(?:abbrev|unfoldable|record|data) pub (\S+)", text_of(path), re.MULTILINE)
+            if names:
+                names = ", ".join(f"`{it}`" for it in names)
+                found.append(f"| {pathlib.Path(path).stem} | {about[1] if about else ''} | {names} |")
+        rows += [f"## `{crate}`", "", "| file | about | definitions |", "|---|---|---|", *found, ""] if found else []
+    return rows[:-1]
+
+
+PARTS = {"levels": levels, "crates": table, "definitions": definitions}
 
 
 def main(words):
