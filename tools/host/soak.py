@@ -11,10 +11,11 @@ import time
 
 from jobs import manifest_of, nodes_of
 from tools.model import repository
+from tools.model.batches import read_batch
 from tools.model.program import JOURNAL, Streams
 from tools.model.records import BASE
 from tools.model.several import Call
-from tools.model.trees import Tree, is_within
+from tools.model.trees import Refused, Tree, is_within
 
 NAMES, FILES, LABELS = ("kill-a", "kill-b", "kill-c"), 4, ("soak.example.com@ex:devel", "soak.example.com@ex:stable")
 CONFIGS = ("", f"installLabelPath {LABELS[0]}\n", f"# none\ninstallLabelPath {LABELS[1]} {LABELS[0]}\nflavor ~ssl\n", "installLabelPath x\n")
@@ -104,6 +105,19 @@ class Answer:
         call = Call([os.fsencode(word) for word in words], streams, root, repo)
         self.status, self.out, self.err = call.status, call.out, call.err
         self.state = State(root.nodes, repo.nodes)
+
+
+def states_in(before, words, given):
+    """The states between the lines of a batch."""
+    try:
+        lines = read_batch(given) if words == ["batch"] else []
+    except Refused:
+        lines = []
+    batch, states = b"", []
+    for words, data in lines[:-1]:
+        batch += b" ".join([*words, b"<%d" % len(data)]) + b"\n" + data + b"\n"
+        states.append(Answer(before, ["batch"], batch).state)
+    return states
 
 
 # ---- what is done
@@ -241,15 +255,15 @@ class Soak:
             yield f"the model: {wanted.status} {wanted.out[:2000]} {wanted.err}\nthe program: {found[0]} {found[1][:2000]} {found[2]}"
         yield from wanted.state.differences(state, False)
 
-    def check_cut_off(self, before, wanted):
-        """What the next command finds where this one was killed, or found no room."""
+    def check_cut_off(self, states):
+        """What the next command finds where one was killed, or found no room: one of the states that it had, the first of them before it."""
         status, out, err = self.run(["rblist"], b"")
         state = self.room.state()
-        from_before, from_after = (list(one.differences(state, True)) for one in (before, wanted.state))
-        if from_before and from_after:
-            yield "neither the state before nor the one after:\n" + "\n".join([*from_before[:9], "--", *from_after[:9]])
+        differ = [list(one.differences(state, True)) for one in states]
+        if all(differ):
+            yield "no state that the command had:\n" + "\n--\n".join("\n".join(one[:9]) for one in differ)
             return
-        self.counts["after" if from_before else "before"] += 1
+        self.counts["after" if differ[0] else "before"] += 1
         listed = Answer(state, ["rblist"])
         if (status, out, err) != (listed.status, listed.out, listed.err):
             yield f"rblist then answers {status} {out} {err}, and the model {listed.status} {listed.out} {listed.err}"
@@ -273,7 +287,7 @@ class Soak:
         self.statuses[found[0]] = self.statuses.get(found[0], 0) + 1
         if found[0] == -signal.SIGKILL or way == "full" and found[0] in (5, 6):
             self.counts["killed" if found[0] < 0 else "without room"] += 1
-            differ = list(self.check_cut_off(before, wanted))
+            differ = list(self.check_cut_off([before, *states_in(before, words, given), wanted.state]))
         else:
             differ = list(self.check_answer(wanted, found, self.room.state()))
         if wanted.status == 0 and words[0] in ("localcs", "changeset") and found[0] == 0:
