@@ -15,7 +15,7 @@ import subprocess
 import sys
 import tempfile
 
-DOCUMENTS = ("README.md", "docs/TUTORIAL.md")
+DOCUMENTS = ("README.md", "docs/TUTORIAL.md", "docs/COMMANDS.md")
 BEGIN, MARK = "    $ ", "end of command"
 NOTICE = re.compile(r"^conary: (this build has|building).*\n", re.MULTILINE)
 

@@ -279,7 +279,8 @@ class Soak:
         way = random.choices(("plain", "killed", "full"), (70, 15, 15 * self.room.is_mounted))[0]
         if way == "full":
             self.room.leave(random.randint(0, 30))
-        after = random.uniform(0, 1.1 * self.took.get((words[0], wanted.status), 0.2)) if way == "killed" else None
+        took = self.took.get((words[0], wanted.status), 0.2)
+        after = random.triangular(0, 1.2 * took, took) if way == "killed" else None
         found = self.run(words, given, after)
         self.room.give_back()
         self.counts["commands"] += 1
