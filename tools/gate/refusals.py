@@ -13,7 +13,7 @@ import sys
 REFUSALS = pathlib.Path("crates/cny_report/src/refusals.rt")
 STATUSES = pathlib.Path("crates/cli_call/src/reporting.rt")
 DOCUMENT = pathlib.Path("docs/COMMANDS.md")
-NO_COMMAND = "come from no command"
+NO_COMMAND = "comes? from no command"
 
 
 def plain(text):
