@@ -16,6 +16,7 @@ pub mod StagedBytes
 pub mod Preparing
 pub mod Applying
 pub mod InOrder
+pub mod Emptied
 pub mod Recovering
 pub mod RecoveredDisk
 pub use Rattle.journal_log.proofs.tree-disk

@@ -4,6 +4,7 @@ pub mod Recovery
 pub mod Passes
 pub mod Visible
 pub mod Apply
+pub mod EmptyStage
 pub mod Preparing
 pub mod Steps
 pub mod Found

@@ -6,6 +6,7 @@
 mod blocked;
 mod copying;
 mod directory;
+mod emptying;
 mod flag;
 mod found;
 mod moving;
@@ -17,6 +18,7 @@ mod unstaged;
 mod writing;
 
 pub use directory::make_dir;
+pub use emptying::clear_stage;
 pub use journal_log;
 pub use journal_log::{Put, Puts, Want, cny_base, tree_disk};
 pub use recovered::recover_disk;

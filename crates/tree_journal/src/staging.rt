@@ -43,11 +43,11 @@ pub fn stage<D: TreeDisk>(
     ensures clear { IsTrue D.disk.tells → OnOk result (HoldsNoOthers base.now numbered.now (D.disk.reads disk.new)) }
 {
     let dir = own_path(alloc, base, "p")?;
-    clear_stage(alloc, disk, &dir, puts)?;
+    clear_dir(alloc, disk, &dir, puts)?;
     write_all(alloc, disk, base, &dir, puts.get(), numbered)
 }
 
-fn clear_stage<D: TreeDisk>(
+pub(crate) fn clear_dir<D: TreeDisk>(
     alloc: Global,
     disk: &mut D,
     dir: &Path,

@@ -8,7 +8,7 @@ use Rattle.tree_journal.specs.Apply.{with_base}
 use Rattle.tree_journal.specs.Steps.{without_strays, with_stage, HasNoStrays}
 use Rattle.tree_journal.proofs.OwnFiles.{base_stands, ends_so}
 use Rattle.tree_journal.proofs.StagedBytes.{no_strays}
-use Rattle.tree_journal.proofs.staging.clear_stage.Goals as goal
+use Rattle.tree_journal.proofs.staging.clear_dir.Goals as goal
 
 pub returns-in_err-make_dir-clause-makes : goal.returns-in_err-make_dir-clause-makes
 returns-in_err-make_dir-clause-makes g c = makes_stop (makes_wider (itself_within c.args.dir.now) c.in_err-make_dir.ensures) c.from_residual.ensures.1
