@@ -11,6 +11,7 @@ pub mod Putting
 pub mod States
 pub mod Readying
 pub mod Resting
+pub mod StagedContents
 pub mod Unique
 pub mod Applied
 pub mod Within

@@ -4,6 +4,7 @@ pub mod Verdict
 pub mod Steps
 pub mod Outcome
 pub mod Order
+pub mod Stage
 pub mod Preparing
 pub mod Between
 pub mod Damage

@@ -24,6 +24,7 @@ mod preparing;
 mod refs;
 mod sets;
 mod sizes;
+mod staging;
 mod testing;
 mod writing;
 
@@ -37,3 +38,4 @@ pub use repo_load::{
     trove_stream,
 };
 pub use sets::between;
+pub use staging::stage;
