@@ -10,11 +10,19 @@ import re
 import sys
 
 CALLS = "look|read_at|list|append|make_dir|make_link|set_mode|remove|rename|sync"
-# A disk's calls are given the allocator first; a list's aren't.
-OF_DISK = re.compile(rf"\.({CALLS})\(\s*alloc\b|\b(?:root|repo|disk)\s*\.({CALLS})\(|\b(?:TreeDisk|[A-Z])::({CALLS})\(")
+# Whatever the disk is called: a map's `remove` and a list's `append` take one argument, a disk's more. A function's path may be that of
+# `steps` alone.
+OF_DISK = re.compile(
+    rf"\.(?:look|read_at|list|make_dir|make_link|set_mode|rename|sync)\(|\.(?:append|remove)\((?:[^(),]|\([^()]*\))*,|\b(?:root|repo|disk)\s*\.(?:{CALLS})\(|(?<!\bsteps)::(?:{CALLS})\("
+)
+# A source gives its bytes into a buffer.
+TAKES = re.compile(r"\.take\(\s*&\s*mut\b|\binput\s*\.take\(|(?:Source>?|\b[A-Z])::take\(")
 # What is a disk itself, and what only tests.
 DISKS = {"tree_disk", "tree_nodes", "tree_memory", "tree_host"}
 TESTS = re.compile(r"\w+_lines|line_words|root_words|host_words|conary_on_host")
+# Where an input is at hand, anything is looked at that is called so.
+ANY_TAKE = re.compile(r"\.take\(|::take\(")
+READERS = {"cli_call", "conary_cli"}
 TURN = re.compile(r"loop \{\s*if take_more\(input, &mut bytes\)\? == 0 \{\s*return Ok\(")
 
 
@@ -27,7 +35,7 @@ def main():
             continue
         code = re.sub(r"//[^\n]*", "", text)
         found += [f"{path}: a call of a disk beside tree_disk::steps: {it[0]}" for it in OF_DISK.finditer(code)]
-        takes += len(re.findall(r"\binput\s*\.take\(|\b(?:Source|[A-Z])::take\(", code))
+        takes += len(ANY_TAKE.findall(code)) if crate in READERS else len(TAKES.findall(code))
         calls += len(re.findall(r"\btake_more\(", code))
         turns += len(TURN.findall(code))
     if (takes, calls, turns) != (1, 1, 1):
