@@ -1,23 +1,26 @@
 -- A line by itself: the call of a command whose input is told.
 use Rattle.std.proofs.Common.{◌≡◌, ℕ, Bool, true, false, List, length, Result, Ok, Err, nat_lt, cond, refl, sym, ap, subst, inl, inr, arith}
+use Rattle.std.specs.Prelude.{IsTrue}
 use Rattle.cli_call.specs.cny-base.declared.refusal.Refusal.{Refusal}
 use Rattle.cli_call.specs.cny-laws.declared.failure.Failure.TheVariants as failure
 use Rattle.cli_call.specs.cny-laws.Input.{input_limit, within_limit}
 use Rattle.cli_call.specs.cny-laws.Reading.{ReadsGiven, given, left_by}
 use Rattle.cli_call.specs.tree-disk.Disk.{DiskModel, IsDisk}
+use Rattle.cny_batch.specs.declared.line.Line.{Line}
 use Rattle.cli_call.specs.cny-laws.declared.failure.Failure.{Failure}
 use Rattle.cli_call.specs.cny-laws.Call.{CallState}
-use Rattle.cli_call.specs.Runs.{RunsCall}
+use Rattle.cli_call.specs.Line.{Moment}
+use Rattle.cli_call.specs.Runs.{RunsCall, RunsOpen}
 use Rattle.cli_call.specs.cny-laws.Report.{End}
 use Rattle.conary_cli.specs.declared.words.Command.{Command}
 use Rattle.cli_call.proofs.CallLaws.{memory_call}
 use Rattle.conary_cli.specs.Commands.{RunsSome, RunsWords, meaning, scope_of}
-use Rattle.conary_cli.specs.Lines.{GivesOf}
-use Rattle.conary_cli.specs.Records.{EndsOpened}
+use Rattle.conary_cli.specs.Lines.{RunsOf}
+use Rattle.conary_cli.specs.Records.{EndsOpened, EndsWhole}
 use Rattle.conary_cli.specs.Program.{RunsAlone, told_source}
 use Rattle.conary_cli.specs.Words.{AreWords, IsOnly, OrMemory, ReadsWords}
 use Rattle.conary_cli.proofs.Calls.{some_unread}
-use Rattle.conary_cli.proofs.RecordEnds.{memory_whole}
+use Rattle.conary_cli.proofs.RecordEnds.{memory_whole, unread_whole}
 
 of_cond : {E : Type 0} (b : Bool) (e : E) (input bytes : List ℕ) → cond b (Err e) (Ok input) ≡ Ok bytes → input ≡ bytes
 of_cond true e input bytes h = absurd (cc h)
@@ -72,17 +75,6 @@ unread_alone {root_disk = root_disk} repo_disk root_laws words own same before e
   λ expected is. no_command repo_disk root_laws before expected e (read expected (subst (λ (w : List (List ℕ)). AreWords w expected) (sym same) is)),
 )
 
--- the input of a line that isn't taken
-pub told_unread : (takes : Bool) (input : List ℕ) (e : Failure) → GivesOf takes input (Err e) → ReadsGiven takes (told_source input) (told_source (left_by takes input)) (Err e)
-told_unread takes input (failure.Refused r) gives = told_refused takes input r gives
-told_unread takes input failure.Usage gives = absurd gives
-told_unread takes input failure.InputFault gives = absurd gives
-told_unread takes input failure.OutputFault gives = absurd gives
-told_unread takes input failure.RootFault gives = absurd gives
-told_unread takes input failure.RepositoryFault gives = absurd gives
-told_unread takes input failure.Memory gives = absurd gives
-told_unread takes input (failure.Damaged path) gives = absurd gives
-
 -- words that were read as a command
 pub begun_alone : {T P : Type 0} (root_disk : DiskModel T) (repo_disk : DiskModel P) (words own : List (List ℕ)) → words ≡ own → (c : Command) → IsOnly (AreWords words) (Ok c) → (before now : CallState T P) (end : End)
     → RunsCall root_disk repo_disk (scope_of c) (meaning c) before now end → EndsOpened root_disk repo_disk c before now end → RunsAlone root_disk repo_disk own before now end
@@ -90,3 +82,15 @@ begun_alone root_disk repo_disk words own same c are before now end runs records
   inl (Ok c, subst (λ (w : List (List ℕ)). AreWords w (Ok c)) same are.is, (runs, records)),
   λ expected is. subst (λ (x : Result Command Failure). RunsWords root_disk repo_disk x before now end) (are.only expected (subst (λ (w : List (List ℕ)). AreWords w expected) (sym same) is)) (runs, records),
 )
+
+-- what a command did over open disks with what it was given of a line's input, as with an input that is told
+pub given_alone : {T P : Type 0} (root_disk : DiskModel T) (repo_disk : DiskModel P) (c : Command) (line : Line) (old new : Moment T P) (end : End) → RunsOf root_disk repo_disk (Ok c) (record { shown = true; line = line }) old new end
+    → RunsOpen root_disk repo_disk (scope_of c) (meaning c) (told_source line.input) (told_source (left_by (meaning c).takes_input line.input)) old new end
+given_alone root_disk repo_disk c line old new end (inl refuses) = inl (record { failure = failure.Refused refuses.refusal; is = refuses.is; reads = told_refused (meaning c).takes_input line.input refuses.refusal refuses.refuses; same = refuses.same })
+given_alone root_disk repo_disk c line old new end (inr given) = inr (record { bytes = given.bytes; reads = told_reads (meaning c).takes_input line.input given.bytes given.gives; runs = given.runs })
+
+pub given_whole : {T P : Type 0} (root_disk : DiskModel T) (repo_disk : DiskModel P) (c : Command) (line : Line) (old new : Moment T P) (end : End) → RunsOf root_disk repo_disk (Ok c) (record { shown = true; line = line }) old new end
+    → IsTrue root_disk.tells → EndsWhole c (root_disk.reads old.at.root) old.at.opened.db end
+given_whole root_disk repo_disk c line old new end (inl refuses) told = subst (λ (x : End). EndsWhole c (root_disk.reads old.at.root) old.at.opened.db x) (sym refuses.is)
+    (unread_whole c (root_disk.reads old.at.root) old.at.opened.db (meaning c).takes_input (failure.Refused refuses.refusal) refl (told_refused (meaning c).takes_input line.input refuses.refusal refuses.refuses))
+given_whole root_disk repo_disk c line old new end (inr given) told = given.records told

@@ -13,7 +13,7 @@ use Rattle.cli_call.specs.cny-laws.declared.failure.Failure.TheVariants as failu
 use Rattle.cli_call.specs.cny-laws.Report.{End}
 use Rattle.conary_cli.specs.declared.words.Command.{Command}
 use Rattle.conary_cli.specs.Commands.{meaning, scope_of}
-use Rattle.conary_cli.specs.Lines.{CallLine, GivesOf, RunsOne, all_shown, heard}
+use Rattle.conary_cli.specs.Lines.{CallLine, GivesOf, RunsOf, RunsOne, all_shown, heard}
 use Rattle.conary_cli.specs.Records.{EndsWhole}
 use Rattle.conary_cli.proofs.RestoreEnds.{line_restores}
 use Rattle.conary_cli.specs.Words.{AreWords, IsOnly, OrMemory, ReadsWords}
@@ -50,15 +50,21 @@ module _ {T P : Type 0} (root_disk : DiskModel T) (repo_disk : DiskModel P) (l :
   unread_line failure.RepositoryFault is read = absurd (read (Err failure.RepositoryFault) is)
   unread_line (failure.Damaged path) is read = absurd (read (Err (failure.Damaged path)) is)
 
-  -- its input is refused
-  pub refused_line : (c : Command) → IsOnly (AreWords words) (Ok c) → (e : Failure) → GivesOf (meaning c).takes_input l.line.input (Err e) → RunsOne root_disk repo_disk l at at (Err e)
-  refused_line c are (failure.Refused r) gives = inl (Ok c, own_only (Ok c) are, inl (record { refusal = r; is = refl; refuses = gives; same = refl }))
-  refused_line c are _ gives = absurd gives
+  -- words that were read as a command, and what that did
+  pub read_line : (c : Command) → IsOnly (AreWords words) (Ok c) → (new : Moment T P) (end : End) → RunsOf root_disk repo_disk (Ok c) l at new end → RunsOne root_disk repo_disk l at new end
+  read_line c are new end runs = inl (Ok c, own_only (Ok c) are, runs)
+
+-- a command with what it is given of a line's input
+module _ {T P : Type 0} (root_disk : DiskModel T) (repo_disk : DiskModel P) (l : CallLine) (c : Command) (at : Moment T P) where
+  -- that is refused
+  pub refused_line : (e : Failure) → GivesOf (meaning c).takes_input l.line.input (Err e) → RunsOf root_disk repo_disk (Ok c) l at at (Err e)
+  refused_line (failure.Refused r) gives = inl (record { refusal = r; is = refl; refuses = gives; same = refl })
+  refused_line _ gives = absurd gives
 
   -- it was performed
-  pub line_done : (c : Command) → IsOnly (AreWords words) (Ok c) → (bytes : List ℕ) → GivesOf (meaning c).takes_input l.line.input (Ok bytes) → (new : Moment T P) (end : End)
-      → RunsLine root_disk repo_disk (scope_of c) (heard l.shown (meaning c)) bytes at new end → (IsTrue root_disk.tells → EndsWhole c (root_disk.reads at.at.root) at.at.opened.db end) → (l.shown ≡ false → new.out ≡ at.out) → (end ≡ Ok tt → AreReady root_disk repo_disk new.at) → RunsOne root_disk repo_disk l at new end
-  line_done c are bytes gives new end runs records quiet again = inl (Ok c, own_only (Ok c) are, inr (record { bytes = bytes; gives = gives; runs = runs; records = records; restores = line_restores root_disk repo_disk c l.shown bytes at new end runs; quiet = quiet; again = again }))
+  pub line_done : (bytes : List ℕ) → GivesOf (meaning c).takes_input l.line.input (Ok bytes) → (new : Moment T P) (end : End)
+      → RunsLine root_disk repo_disk (scope_of c) (heard l.shown (meaning c)) bytes at new end → (IsTrue root_disk.tells → EndsWhole c (root_disk.reads at.at.root) at.at.opened.db end) → (l.shown ≡ false → new.out ≡ at.out) → (end ≡ Ok tt → AreReady root_disk repo_disk new.at) → RunsOf root_disk repo_disk (Ok c) l at new end
+  line_done bytes gives new end runs records quiet again = inr (record { bytes = bytes; gives = gives; runs = runs; records = records; restores = line_restores root_disk repo_disk c l.shown bytes at new end runs; quiet = quiet; again = again })
 
 -- the next of some lines
 next_of : {A : Type 0} (lines : List A) (k : ℕ) (line : A) → k < length lines → line ≡ get_or lines k line → drop k lines ≡ line ∷ drop (k + 1) lines

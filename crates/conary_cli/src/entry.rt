@@ -49,8 +49,31 @@ fn start_words(rt: &HostRuntime) -> Result<u8, OutOfMemory>
     }
 }
 
-// Runs words over two directories of the host, each of which no other call has meanwhile: all calls of one that is in use fail. The
-// root is asked for last and used first, so of a directory that is given twice nothing is touched.
+// The directory of the host of this name, which no other call has meanwhile: all calls of one that is in use fail.
+fn host_tree<'a>(
+    rt: &'a HostRuntime,
+    name: &str,
+) -> Result<HostTree<'a, HostRuntime>, OutOfMemory> {
+    let alloc = rt.alloc();
+    let name = Text::new(alloc, name)?;
+    Ok(HostTree::locked(alloc, rt, name))
+}
+
+// Runs words over a repository, and the directory of this name as the root.
+fn run_on_root<P: TreeDisk>(
+    rt: &HostRuntime,
+    words: &[String],
+    root: &str,
+    repo: &mut P,
+) -> Result<u8, OutOfMemory>
+    ensures { IfOk result (λ status. status ≤ 8) }
+{
+    let mut root = host_tree(rt, root)?;
+    Ok(run_over(rt, words, repo, &mut root))
+}
+
+// Runs words over two directories of the host. The root is asked for last and used first, so of a directory that is given twice
+// nothing is touched.
 fn run_on_host(
     rt: &HostRuntime,
     words: &[String],
@@ -59,10 +82,8 @@ fn run_on_host(
 ) -> Result<u8, OutOfMemory>
     ensures { IfOk result (λ status. status ≤ 8) }
 {
-    let alloc = rt.alloc();
-    let mut repo = HostTree::locked(alloc, rt, Text::new(alloc, repo)?);
-    let mut root = HostTree::locked(alloc, rt, Text::new(alloc, root)?);
-    Ok(run_over(rt, words, &mut repo, &mut root))
+    let mut repo = host_tree(rt, repo)?;
+    run_on_root(rt, words, root, &mut repo)
 }
 
 // Runs words over two trees in memory, which are gone when the program ends.

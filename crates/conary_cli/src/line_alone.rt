@@ -1,21 +1,37 @@
 //! A line by itself.
-ghost use Rattle.std.specs.Prelude.{List, Result, ℕ};
+ghost use Rattle.std.specs.Prelude.{List, Ok, Result, ℕ};
 ghost use Rattle.cny_flow.specs.Flow.{sink_state};
 ghost use Rattle.cli_call.specs.cny-laws.declared.failure.Failure.{Failure};
 ghost use Rattle.conary_cli.specs.declared.words.Command.{Command};
+ghost use Rattle.conary_cli.specs.Commands.{RunsWords};
 ghost use Rattle.conary_cli.specs.Program.{IsLineCall, IsLineCallOf, RunsAlone, line_state, told_source};
 ghost use Rattle.conary_cli.specs.Words.{AreWords};
 
-use crate::lines::given_of;
-use crate::program::run_command;
-use crate::words::read_words;
+use crate::lines::run_given;
+use crate::words::{Command, read_words};
 use cli_call::tree_disk::TreeDisk;
 use cli_call::{Failure, open_disks, report, store_laws};
 use cny_batch::Line;
 use cny_flow::Sink;
 use std::alloc::Global;
 
-// Opens both disks, and performs the command of a line with its input.
+// Opens both disks, and performs a command with what it is given of a line's input.
+fn run_opened<O: Sink, T: TreeDisk, P: TreeDisk>(
+    alloc: Global,
+    command: &Command,
+    line: &Line,
+    out: &mut O,
+    repo: &mut P,
+    root: &mut T,
+) -> Result<(), Failure>
+    ensures { (rest : List ℕ) × RunsWords T.disk P.disk (Ok command.now) (line_state (told_source line.now.input) root.old repo.old (sink_state O.sink out.old))
+        (line_state (told_source rest) root.new repo.new (sink_state O.sink out.new)) result }
+{
+    let mut opened = open_disks(alloc, repo, root)?;
+    run_given(alloc, command, line, &mut opened, out, repo, root)
+}
+
+// Reads the words of a line, and calls the command that they are with its input.
 fn run_alone<O: Sink, T: TreeDisk, P: TreeDisk>(
     alloc: Global,
     line: &Line,
@@ -27,9 +43,7 @@ fn run_alone<O: Sink, T: TreeDisk, P: TreeDisk>(
         (line_state (told_source rest) root.new repo.new (sink_state O.sink out.new)) result }
 {
     let command = read_words(alloc, line.words.get())?;
-    let mut opened = open_disks(alloc, repo, root)?;
-    let input = given_of(&command, line.input.get())?;
-    run_command(alloc, &command, input, &mut opened, out, repo, root)
+    run_opened(alloc, &command, line, out, repo, root)
 }
 
 /// Runs one line on the two disks, and answers its status: the call of its command with just its input. `batch` and `demo` are no

@@ -5,7 +5,7 @@ ghost use Rattle.cli_call.specs.Command.{disks, AreReady};
 ghost use Rattle.cli_call.specs.Line.{moment};
 ghost use Rattle.cny_batch.specs.Demo as demo;
 ghost use Rattle.conary_cli.specs.Commands.{meaning};
-ghost use Rattle.conary_cli.specs.Lines.{GivesOf, RunsLines, RunsOne, all_shown, last_shown};
+ghost use Rattle.conary_cli.specs.Lines.{GivesOf, RunsLines, RunsOf, RunsOne, all_shown, last_shown};
 
 use crate::commands::{perform, takes_input};
 use crate::program::run_command;
@@ -34,6 +34,40 @@ pub fn given_of<'a>(command: &Command, input: &'a [u8]) -> Result<&'a [u8], Fail
     Ok(input)
 }
 
+/// Performs a command over two disks that are open with what it is given of a line's input, and writes what it answers.
+pub(crate) fn run_given<O: Sink, T: TreeDisk, P: TreeDisk>(
+    alloc: Global,
+    command: &Command,
+    line: &Line,
+    opened: &mut Opened,
+    out: &mut O,
+    repo: &mut P,
+    root: &mut T,
+) -> Result<(), Failure>
+    requires { AreReady T.disk P.disk (disks root.old repo.old opened.old) }
+    ensures { RunsOf T.disk P.disk (Ok command.now) (record { shown = true; line = line.now }) (moment O.sink root.old repo.old opened.old out.old) (moment O.sink root.new repo.new opened.new out.new) result }
+{
+    let input = given_of(command, line.input.get())?;
+    run_command(alloc, command, input, opened, out, repo, root)
+}
+
+// The same, and writes nothing.
+fn run_given_silently<T: TreeDisk, P: TreeDisk>(
+    alloc: Global,
+    command: &Command,
+    line: &Line,
+    opened: &mut Opened,
+    repo: &mut P,
+    root: &mut T,
+) -> Result<(), Failure>
+    requires { AreReady T.disk P.disk (disks root.old repo.old opened.old) }
+    ensures { (out : SinkState) → RunsOf T.disk P.disk (Ok command.now) (record { shown = false; line = line.now }) (record { at = disks root.old repo.old opened.old; out = out }) (record { at = disks root.new repo.new opened.new; out = out }) result }
+{
+    let input = given_of(command, line.input.get())?;
+    perform(alloc, command, input, opened, repo, root)?;
+    Ok(())
+}
+
 // Runs a line, and writes what it answers.
 fn run_shown<O: Sink, T: TreeDisk, P: TreeDisk>(
     alloc: Global,
@@ -47,8 +81,7 @@ fn run_shown<O: Sink, T: TreeDisk, P: TreeDisk>(
     ensures { RunsOne T.disk P.disk (record { shown = true; line = line.now }) (moment O.sink root.old repo.old opened.old out.old) (moment O.sink root.new repo.new opened.new out.new) result }
 {
     let command = read_words(alloc, line.words.get())?;
-    let input = given_of(&command, line.input.get())?;
-    run_command(alloc, &command, input, opened, out, repo, root)
+    run_given(alloc, &command, line, opened, out, repo, root)
 }
 
 // Runs a line, and writes nothing.
@@ -63,9 +96,7 @@ fn run_silent<T: TreeDisk, P: TreeDisk>(
     ensures { (out : SinkState) → RunsOne T.disk P.disk (record { shown = false; line = line.now }) (record { at = disks root.old repo.old opened.old; out = out }) (record { at = disks root.new repo.new opened.new; out = out }) result }
 {
     let command = read_words(alloc, line.words.get())?;
-    let input = given_of(&command, line.input.get())?;
-    perform(alloc, &command, input, opened, repo, root)?;
-    Ok(())
+    run_given_silently(alloc, &command, line, opened, repo, root)
 }
 
 // Runs a line, and writes what it answers, or nothing.

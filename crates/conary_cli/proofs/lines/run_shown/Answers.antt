@@ -1,10 +1,9 @@
-use Rattle.std.proofs.Common.{ℕ, List, true, Ok, Err, subst, map}
+use Rattle.std.proofs.Common.{true, map}
 use Rattle.std.specs.Prelude.{string_bytes}
 use Rattle.cny_version.proofs.cny-base.Passing.{err_is}
 use Rattle.cli_call.specs.Line.{moment}
-use Rattle.conary_cli.specs.Lines.{CallLine, GivesOf, RunsOne}
-use Rattle.conary_cli.specs.Commands.{meaning}
-use Rattle.conary_cli.proofs.LineWords.{line_done, ok_holds, read_only, refused_line, unread_line}
+use Rattle.conary_cli.specs.Lines.{CallLine, RunsOne}
+use Rattle.conary_cli.proofs.LineWords.{read_line, read_only, unread_line}
 use Rattle.conary_cli.proofs.lines.run_shown.Goals as goal
 
 pub returns-in_err-command : goal.returns-in_err-command
@@ -14,17 +13,10 @@ returns-in_err-command g c =
     err_is (RunsOne g.T.TreeDisk.disk g.P.TreeDisk.disk l at at) c.from_residual.result c.in_err-command.field-0.0 c.from_residual.ensures.1
     (unread_line g.T.TreeDisk.disk g.P.TreeDisk.disk l _ c.get.ensures at c.in_err-command.field-0.0 c.in_err-command.ensures.is c.in_err-command.ensures.read)
 
-pub returns-in_err-input : goal.returns-in_err-input
-returns-in_err-input g c =
-    let at = moment g.O.Sink.sink c.args.root.now c.args.repo.now c.args.opened.now c.args.out.now in
-    let l : CallLine = record { shown = true; line = c.args.line.now } in
-    err_is (RunsOne g.T.TreeDisk.disk g.P.TreeDisk.disk l at at) c.from_residual-in_err-input.result c.in_err-input.field-0.0 c.from_residual-in_err-input.ensures.1
-    (refused_line g.T.TreeDisk.disk g.P.TreeDisk.disk l _ c.get.ensures at c.in_ok-command.command (read_only (map string_bytes c.get.result.now) c.in_ok-command.command c.in_ok-command.ensures.is c.in_ok-command.ensures.read) c.in_err-input.field-0.0 (subst (λ (x : List ℕ). GivesOf (meaning c.in_ok-command.command).takes_input x (Err c.in_err-input.field-0.0)) c.get-2.ensures c.in_err-input.ensures.err))
-
 pub returns : goal.returns
 returns g c =
     let at = moment g.O.Sink.sink c.args.root.now c.args.repo.now c.args.opened.now c.args.out.now in
-    let new = moment g.O.Sink.sink c.run_command.new.root c.run_command.new.repo c.run_command.new.opened c.run_command.new.out in
+    let new = moment g.O.Sink.sink c.run_given.new.root c.run_given.new.repo c.run_given.new.opened c.run_given.new.out in
     let l : CallLine = record { shown = true; line = c.args.line.now } in
-    line_done g.T.TreeDisk.disk g.P.TreeDisk.disk l _ c.get.ensures at c.in_ok-command.command (read_only (map string_bytes c.get.result.now) c.in_ok-command.command c.in_ok-command.ensures.is c.in_ok-command.ensures.read) c.in_ok-input.input.now (subst (λ (x : List ℕ). GivesOf (meaning c.in_ok-command.command).takes_input x (Ok c.in_ok-input.input.now)) c.get-2.ensures c.in_ok-input.ensures.ok) new c.run_command.result
-    c.run_command.ensures.line c.run_command.ensures.records (λ off. absurd (cc off)) (λ is. ok_holds c.run_command.result tt is c.run_command.ensures.again)
+    let command = c.in_ok-command.command in
+    read_line g.T.TreeDisk.disk g.P.TreeDisk.disk l _ c.get.ensures at command (read_only (map string_bytes c.get.result.now) command c.in_ok-command.ensures.is c.in_ok-command.ensures.read) new c.run_given.result c.run_given.ensures

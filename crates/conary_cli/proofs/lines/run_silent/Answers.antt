@@ -1,12 +1,9 @@
-use Rattle.std.proofs.Common.{ℕ, List, false, Err, Ok, refl, subst, map}
+use Rattle.std.proofs.Common.{false, map}
 use Rattle.std.specs.Prelude.{string_bytes}
 use Rattle.cny_version.proofs.cny-base.Passing.{err_is}
 use Rattle.cli_call.specs.Command.{disks}
-use Rattle.conary_cli.specs.Lines.{CallLine, GivesOf, RunsOne}
-use Rattle.conary_cli.specs.Commands.{meaning}
-use Rattle.conary_cli.proofs.LineWords.{at_out, line_done, read_only, refused_line, unread_line}
-use Rattle.conary_cli.proofs.RecordEnds.{written_whole}
-use Rattle.conary_cli.proofs.Silent.{silent_line}
+use Rattle.conary_cli.specs.Lines.{CallLine, RunsOne}
+use Rattle.conary_cli.proofs.LineWords.{at_out, read_line, read_only, unread_line}
 use Rattle.conary_cli.proofs.lines.run_silent.Goals as goal
 
 pub returns-in_err-command : goal.returns-in_err-command
@@ -16,34 +13,10 @@ returns-in_err-command g c = λ out.
     err_is (RunsOne g.T.TreeDisk.disk g.P.TreeDisk.disk l at at) c.from_residual.result c.in_err-command.field-0.0 c.from_residual.ensures.1
     (unread_line g.T.TreeDisk.disk g.P.TreeDisk.disk l _ c.get.ensures at c.in_err-command.field-0.0 c.in_err-command.ensures.is c.in_err-command.ensures.read)
 
-pub returns-in_err-input : goal.returns-in_err-input
-returns-in_err-input g c = λ out.
-    let at = at_out (disks c.args.root.now c.args.repo.now c.args.opened.now) out in
-    let l : CallLine = record { shown = false; line = c.args.line.now } in
-    err_is (RunsOne g.T.TreeDisk.disk g.P.TreeDisk.disk l at at) c.from_residual-in_err-input.result c.in_err-input.field-0.0 c.from_residual-in_err-input.ensures.1
-    (refused_line g.T.TreeDisk.disk g.P.TreeDisk.disk l _ c.get.ensures at c.in_ok-command.command (read_only (map string_bytes c.get.result.now) c.in_ok-command.command c.in_ok-command.ensures.is c.in_ok-command.ensures.read) c.in_err-input.field-0.0 (subst (λ (x : List ℕ). GivesOf (meaning c.in_ok-command.command).takes_input x (Err c.in_err-input.field-0.0)) c.get-2.ensures c.in_err-input.ensures.err))
-
-pub returns-in_err-perform : goal.returns-in_err-perform
-returns-in_err-perform g c = λ out.
-    let old = disks c.args.root.now c.args.repo.now c.args.opened.now in
-    let after = disks c.perform.new.root c.perform.new.repo c.perform.new.opened in
-    let at = at_out old out in
-    let new = at_out after out in
-    let l : CallLine = record { shown = false; line = c.args.line.now } in
-    let command = c.in_ok-command.command in
-    let e = c.in_err-perform.field-0.0 in
-    err_is (RunsOne g.T.TreeDisk.disk g.P.TreeDisk.disk l at new) c.from_residual-in_err-perform.result e c.from_residual-in_err-perform.ensures.1
-    (line_done g.T.TreeDisk.disk g.P.TreeDisk.disk l _ c.get.ensures at command (read_only (map string_bytes c.get.result.now) c.in_ok-command.command c.in_ok-command.ensures.is c.in_ok-command.ensures.read) c.in_ok-input.input.now (subst (λ (x : List ℕ). GivesOf (meaning c.in_ok-command.command).takes_input x (Ok c.in_ok-input.input.now)) c.get-2.ensures c.in_ok-input.ensures.ok) new (Err e)
-    (silent_line command c.in_ok-input.input.now old after (Err e) out c.in_err-perform.ensures.performs)
-    (λ told. written_whole command (g.T.TreeDisk.disk.reads c.args.root.now) c.args.opened.now.db (Err e) out out (Err e) (refl, refl) (c.in_err-perform.ensures.performs.records told)) (λ off. refl) (λ is. absurd (cc is)))
-
 pub returns : goal.returns
 returns g c = λ out.
-    let old = disks c.args.root.now c.args.repo.now c.args.opened.now in
-    let after = disks c.perform.new.root c.perform.new.repo c.perform.new.opened in
-    let at = at_out old out in
-    let new = at_out after out in
+    let at = at_out (disks c.args.root.now c.args.repo.now c.args.opened.now) out in
+    let new = at_out (disks c.run_given_silently.new.root c.run_given_silently.new.repo c.run_given_silently.new.opened) out in
     let l : CallLine = record { shown = false; line = c.args.line.now } in
     let command = c.in_ok-command.command in
-    line_done g.T.TreeDisk.disk g.P.TreeDisk.disk l _ c.get.ensures at command (read_only (map string_bytes c.get.result.now) c.in_ok-command.command c.in_ok-command.ensures.is c.in_ok-command.ensures.read) c.in_ok-input.input.now (subst (λ (x : List ℕ). GivesOf (meaning c.in_ok-command.command).takes_input x (Ok c.in_ok-input.input.now)) c.get-2.ensures c.in_ok-input.ensures.ok) new (Ok tt)
-    (silent_line command c.in_ok-input.input.now old after (Ok c.in_ok-perform.field-0) out c.in_ok-perform.ensures.performs) (λ told. c.in_ok-perform.ensures.performs.records told) (λ off. refl) (λ is. c.in_ok-perform.ensures.again)
+    read_line g.T.TreeDisk.disk g.P.TreeDisk.disk l _ c.get.ensures at command (read_only (map string_bytes c.get.result.now) command c.in_ok-command.ensures.is c.in_ok-command.ensures.read) new c.run_given_silently.result (c.run_given_silently.ensures out)
