@@ -8,7 +8,7 @@ pub mod SpecLists
 pub mod WordEnds
 pub mod Living
 pub mod LinesRun
-pub mod Silent
+pub mod Unshown
 pub mod LineWords
 pub mod LineCalls
 pub mod DemoLines

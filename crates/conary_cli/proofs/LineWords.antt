@@ -13,7 +13,7 @@ use Rattle.cli_call.specs.cny-laws.declared.failure.Failure.TheVariants as failu
 use Rattle.cli_call.specs.cny-laws.Report.{End}
 use Rattle.conary_cli.specs.declared.words.Command.{Command}
 use Rattle.conary_cli.specs.Commands.{meaning, scope_of}
-use Rattle.conary_cli.specs.Lines.{CallLine, GivesOf, RunsOf, RunsOne, all_shown, heard}
+use Rattle.conary_cli.specs.Lines.{CallLine, GivesOf, RunsOf, RunsOne, all_shown, shown_as}
 use Rattle.conary_cli.specs.Records.{EndsWhole}
 use Rattle.conary_cli.proofs.RestoreEnds.{line_restores}
 use Rattle.conary_cli.specs.Words.{AreWords, IsOnly, OrMemory, ReadsWords}
@@ -63,7 +63,7 @@ module _ {T P : Type 0} (root_disk : DiskModel T) (repo_disk : DiskModel P) (l :
 
   -- it was performed
   pub line_done : (bytes : List ℕ) → GivesOf (meaning c).takes_input l.line.input (Ok bytes) → (new : Moment T P) (end : End)
-      → RunsLine root_disk repo_disk (scope_of c) (heard l.shown (meaning c)) bytes at new end → (IsTrue root_disk.tells → EndsWhole c (root_disk.reads at.at.root) at.at.opened.db end) → (l.shown ≡ false → new.out ≡ at.out) → (end ≡ Ok tt → AreReady root_disk repo_disk new.at) → RunsOf root_disk repo_disk (Ok c) l at new end
+      → RunsLine root_disk repo_disk (scope_of c) (shown_as l.shown (meaning c)) bytes at new end → (IsTrue root_disk.tells → EndsWhole c (root_disk.reads at.at.root) at.at.opened.db end) → (l.shown ≡ false → new.out ≡ at.out) → (end ≡ Ok tt → AreReady root_disk repo_disk new.at) → RunsOf root_disk repo_disk (Ok c) l at new end
   line_done bytes gives new end runs records quiet again = inr (record { bytes = bytes; gives = gives; runs = runs; records = records; restores = line_restores root_disk repo_disk c l.shown bytes at new end runs; quiet = quiet; again = again })
 
 -- the next of some lines

@@ -25,16 +25,16 @@ use Rattle.cli_call.proofs.RootLaws.{root_laws}
 use Rattle.cli_call.proofs.StoreLaws.{nothing_done, rest_lives, rest_reads}
 use Rattle.conary_cli.specs.declared.words.Command.{Command}
 use Rattle.conary_cli.specs.Commands.{meaning}
-use Rattle.conary_cli.specs.Lines.{CallLine, EndsOne, LineOutcome, LinesEnd, RunsLines, RunsOf, RunsOne, heard}
+use Rattle.conary_cli.specs.Lines.{CallLine, EndsOne, LineOutcome, LinesEnd, RunsLines, RunsOf, RunsOne, shown_as}
 use Rattle.conary_cli.specs.Lives.{LiveBoth, LiveStep, before_last, last_state}
 use Rattle.conary_cli.specs.Words.{AreWords, IsOnly}
 use Rattle.conary_cli.proofs.Living.{live_first, repo_reads_on, root_reads_on}
 
 -- ---- outcomes
 
-pub heard_takes : (shown : Bool) (m : Meaning) → (heard shown m).takes_input ≡ m.takes_input
-heard_takes true m = refl
-heard_takes false m = refl
+pub shown_takes : (shown : Bool) (m : Meaning) → (shown_as shown m).takes_input ≡ m.takes_input
+shown_takes true m = refl
+shown_takes false m = refl
 
 module _ {One Two : Result Effect Refusal → Type 0} (more : (outcome : Result Effect Refusal) → One outcome → Two outcome) where
   pub ends_more : (s next : State) (before now : SinkState) (end : End) → EndsWriting One s next before now end → EndsWriting Two s next before now end
@@ -47,14 +47,14 @@ module _ {One Two : Result Effect Refusal → Type 0} (more : (outcome : Result 
   ends_more s next before now _ h = h
 
 module _ (c : Command) (l : CallLine) (s : State) where
-  given_is : (found : Result (List ℕ) Refusal) → given (meaning c).takes_input l.line.input ≡ found → given (heard l.shown (meaning c)).takes_input l.line.input ≡ found
-  given_is found gives = ap (λ b. given b l.line.input) (heard_takes l.shown (meaning c)) ∙ gives
+  given_is : (found : Result (List ℕ) Refusal) → given (meaning c).takes_input l.line.input ≡ found → given (shown_as l.shown (meaning c)).takes_input l.line.input ≡ found
+  given_is found gives = ap (λ b. given b l.line.input) (shown_takes l.shown (meaning c)) ∙ gives
 
   refused_outcome : (r : Refusal) → given (meaning c).takes_input l.line.input ≡ Err r → LineOutcome (Ok c) l s (Err r)
-  refused_outcome r gives = subst (λ (found : Result (List ℕ) Refusal). Then found ((heard l.shown (meaning c)).IsOutcome s) (Err r)) (sym (given_is (Err r) gives)) refl
+  refused_outcome r gives = subst (λ (found : Result (List ℕ) Refusal). Then found ((shown_as l.shown (meaning c)).IsOutcome s) (Err r)) (sym (given_is (Err r) gives)) refl
 
-  own_outcome : (bytes : List ℕ) → given (meaning c).takes_input l.line.input ≡ Ok bytes → (o : Result Effect Refusal) → (heard l.shown (meaning c)).IsOutcome s bytes o → LineOutcome (Ok c) l s o
-  own_outcome bytes gives o is = subst (λ (found : Result (List ℕ) Refusal). Then found ((heard l.shown (meaning c)).IsOutcome s) o) (sym (given_is (Ok bytes) gives)) is
+  own_outcome : (bytes : List ℕ) → given (meaning c).takes_input l.line.input ≡ Ok bytes → (o : Result Effect Refusal) → (shown_as l.shown (meaning c)).IsOutcome s bytes o → LineOutcome (Ok c) l s o
+  own_outcome bytes gives o is = subst (λ (found : Result (List ℕ) Refusal). Then found ((shown_as l.shown (meaning c)).IsOutcome s) o) (sym (given_is (Ok bytes) gives)) is
 
 -- ---- from a state that both disks stored
 

@@ -28,7 +28,7 @@ use Rattle.cli_call.specs.cny-laws.Report.{End, status_of}
 use Rattle.cli_call.specs.cny-laws.WholeCall.{CallEnds, HasEffect, IsCall, Outcome}
 use Rattle.conary_cli.specs.declared.words.Command.{Command}
 use Rattle.conary_cli.specs.Commands.{is_of_root, meaning, scope_of}
-use Rattle.conary_cli.specs.Lines.{heard, unheard}
+use Rattle.conary_cli.specs.Lines.{shown_as, unshown_outcome}
 use Rattle.conary_cli.specs.Restores.{LineRestores, RestoresBy, RestoresNewest, RestoresDownTo, RollbackRestores}
 use Rattle.cli_call.specs.system-core.Job.{db_of}
 use Rattle.cny_version.proofs.cny-base.Lists.{left_all as all_front, all_at as all_middle, nothing_in}
@@ -166,18 +166,18 @@ rollback_restores root_disk repo_disk before now err err' status c call = record
 -- ---- a line
 
 module _ {T : Type 0} (root_disk : DiskModel T) (now : T) (end : End) (s : State) where
-  own_end : (own : Result Effect Refusal) → EndedBy root_disk now end s (unheard own) → EndedBy root_disk now end s own
+  own_end : (own : Result Effect Refusal) → EndedBy root_disk now end s (unshown_outcome own) → EndedBy root_disk now end s own
   own_end (Ok e) h = h
   own_end (Err r) h = h
 
   -- also of one of which nothing is written
-  heard_end : (shown : Bool) (m : Meaning) (input : List ℕ) → HasEnd root_disk now end s ((heard shown m).IsOutcome s input) → HasEnd root_disk now end s (m.IsOutcome s input)
-  heard_end true m input h = h
-  heard_end false m input h = let own = h.1 in (own.0, own.1, own_end own.0 (subst (EndedBy root_disk now end s) own.2 h.2))
+  shown_end : (shown : Bool) (m : Meaning) (input : List ℕ) → HasEnd root_disk now end s ((shown_as shown m).IsOutcome s input) → HasEnd root_disk now end s (m.IsOutcome s input)
+  shown_end true m input h = h
+  shown_end false m input h = let own = h.1 in (own.0, own.1, own_end own.0 (subst (EndedBy root_disk now end s) own.2 h.2))
 
-pub line_restores : {T P : Type 0} (root_disk : DiskModel T) (repo_disk : DiskModel P) (c : Command) (shown : Bool) (bytes : List ℕ) (old new : Moment T P) (end : End) → RunsLine root_disk repo_disk (scope_of c) (heard shown (meaning c)) bytes old new end → LineRestores root_disk c old.at.root new.at.root end
+pub line_restores : {T P : Type 0} (root_disk : DiskModel T) (repo_disk : DiskModel P) (c : Command) (shown : Bool) (bytes : List ℕ) (old new : Moment T P) (end : End) → RunsLine root_disk repo_disk (scope_of c) (shown_as shown (meaning c)) bytes old new end → LineRestores root_disk c old.at.root new.at.root end
 line_restores root_disk repo_disk c shown bytes old new end runs number is told s rests small =
     let f = (runs.alone (ap is_of_root is)).told told s rests in
-    let ended = line_ended_by root_disk new.at.root end s ((heard shown (meaning c)).IsOutcome s bytes) f.next end old.out new.out refl small f.ends (f.root.rests (omega (arith, small))) in
-    let own = subst (λ (d : Command). HasEnd root_disk new.at.root end s ((meaning d).IsOutcome s bytes)) is (heard_end root_disk new.at.root end s shown (meaning c) bytes ended) in
+    let ended = line_ended_by root_disk new.at.root end s ((shown_as shown (meaning c)).IsOutcome s bytes) f.next end old.out new.out refl small f.ends (f.root.rests (omega (arith, small))) in
+    let own = subst (λ (d : Command). HasEnd root_disk new.at.root end s ((meaning d).IsOutcome s bytes)) is (shown_end root_disk new.at.root end s shown (meaning c) bytes ended) in
     restores root_disk new.at.root end s (is_system (root_disk.reads old.at.root) s.root rests.stored) number own.0 own.1 own.2

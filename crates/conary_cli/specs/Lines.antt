@@ -36,24 +36,24 @@ last_shown (line ∷ []) = record { shown = true; line = line } ∷ []
 last_shown (line ∷ other ∷ lines) = record { shown = false; line = line } ∷ last_shown (other ∷ lines)
 
 -- an outcome of which no byte is written
-abbrev pub unheard : Result Effect Refusal → Result Effect Refusal
-unheard (Ok effect) = Ok (record { change = effect.change; out = [] })
-unheard (Err r) = Err r
+abbrev pub unshown_outcome : Result Effect Refusal → Result Effect Refusal
+unshown_outcome (Ok effect) = Ok (record { change = effect.change; out = [] })
+unshown_outcome (Err r) = Err r
 
 -- the same meaning, but that nothing is answered
-abbrev pub silent : Meaning → Meaning
-silent m = record {
+abbrev pub unshown : Meaning → Meaning
+unshown m = record {
   takes_input = m.takes_input;
-  IsOutcome = λ s input outcome. (own : Result Effect Refusal) × m.IsOutcome s input own × (outcome ≡ unheard own);
+  IsOutcome = λ s input outcome. (own : Result Effect Refusal) × m.IsOutcome s input own × (outcome ≡ unshown_outcome own);
 }
 
-abbrev pub heard : Bool → Meaning → Meaning
-heard true m = m
-heard false m = silent m
+abbrev pub shown_as : Bool → Meaning → Meaning
+shown_as true m = m
+shown_as false m = unshown m
 
 -- By its words: the outcomes of a command with the line's input; of words that are no command there are none.
 abbrev pub LineOutcome : Result Command Failure → CallLine → State → Result Effect Refusal → Type 0
-LineOutcome (Ok c) l s outcome = OwnOutcome (heard l.shown (meaning c)) s l.line.input outcome
+LineOutcome (Ok c) l s outcome = OwnOutcome (shown_as l.shown (meaning c)) s l.line.input outcome
 LineOutcome (Err e) l s outcome = ⊥
 
 -- ---- one line, by its steps
@@ -76,7 +76,7 @@ module _ {T P : Type 0} (root_disk : DiskModel T) (repo_disk : DiskModel P) wher
   pub record RunsGiven (c : Command) (shown : Bool) (input : List ℕ) (old new : Moment T P) (end : End) : Type 0 where
     pub bytes : List ℕ
     pub gives : given (meaning c).takes_input input ≡ Ok bytes
-    pub runs : RunsLine root_disk repo_disk (scope_of c) (heard shown (meaning c)) bytes old new end
+    pub runs : RunsLine root_disk repo_disk (scope_of c) (shown_as shown (meaning c)) bytes old new end
     pub records : IsTrue root_disk.tells → EndsWhole c (root_disk.reads old.at.root) old.at.opened.db end
     pub restores : LineRestores root_disk c old.at.root new.at.root end
     -- of a line that isn't to be told nothing is written, and the output isn't asked

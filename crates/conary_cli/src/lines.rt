@@ -52,7 +52,7 @@ pub(crate) fn run_given<O: Sink, T: TreeDisk, P: TreeDisk>(
 }
 
 // The same, and writes nothing.
-fn run_given_silently<T: TreeDisk, P: TreeDisk>(
+fn run_given_unshown<T: TreeDisk, P: TreeDisk>(
     alloc: Global,
     command: &Command,
     line: &Line,
@@ -85,7 +85,7 @@ fn run_shown<O: Sink, T: TreeDisk, P: TreeDisk>(
 }
 
 // Runs a line, and writes nothing.
-fn run_silent<T: TreeDisk, P: TreeDisk>(
+fn run_unshown<T: TreeDisk, P: TreeDisk>(
     alloc: Global,
     line: &Line,
     opened: &mut Opened,
@@ -96,7 +96,7 @@ fn run_silent<T: TreeDisk, P: TreeDisk>(
     ensures { (out : SinkState) → RunsOne T.disk P.disk (record { shown = false; line = line.now }) (record { at = disks root.old repo.old opened.old; out = out }) (record { at = disks root.new repo.new opened.new; out = out }) result }
 {
     let command = read_words(alloc, line.words.get())?;
-    run_given_silently(alloc, &command, line, opened, repo, root)
+    run_given_unshown(alloc, &command, line, opened, repo, root)
 }
 
 // Runs a line, and writes what it answers, or nothing.
@@ -115,7 +115,7 @@ fn run_made<O: Sink, T: TreeDisk, P: TreeDisk>(
     if shown {
         return run_shown(alloc, line, opened, out, repo, root);
     }
-    run_silent(alloc, line, opened, repo, root)
+    run_unshown(alloc, line, opened, repo, root)
 }
 
 /// Runs lines one after the other, up to the first that doesn't end in status 0.

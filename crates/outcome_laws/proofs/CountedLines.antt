@@ -23,7 +23,7 @@ use Rattle.conary_cli.proofs.cli-call.StoreLaws.{opened_rests, rest_image, rest_
 use Rattle.conary_cli.proofs.cli-call.cny-laws.EditedSystems.{the_system}
 use Rattle.conary_cli.specs.declared.words.Command.{Command}
 use Rattle.conary_cli.specs.Commands.{meaning}
-use Rattle.conary_cli.specs.Lines.{heard, CallLine, EndsOne, LineEnds, LineOutcome, RunsLines, RunsOf, RunsOne}
+use Rattle.conary_cli.specs.Lines.{shown_as, CallLine, EndsOne, LineEnds, LineOutcome, RunsLines, RunsOf, RunsOne}
 use Rattle.conary_cli.specs.Several.{LinesWereRun, Making}
 use Rattle.conary_cli.specs.Words.{AreWords, IsOnly}
 use Rattle.conary_cli.proofs.LinesRun.{one_from}
@@ -49,7 +49,7 @@ module _ (l : CallLine) (s next : State) (dirs : fixed_dirs (tree_of s.root) ≡
       are = are.is;
       is = (
         Ok takes.effect,
-        subst (λ (test : Result (Unit {0}) Refusal). Then test (λ _. OwnOutcome (heard l.shown (meaning c)) s l.line.input) (Ok takes.effect)) (sym dirs) takes.is,
+        subst (λ (test : Result (Unit {0}) Refusal). Then test (λ _. OwnOutcome (shown_as l.shown (meaning c)) s l.line.input) (Ok takes.effect)) (sym dirs) takes.is,
         λ i. record { next = takes.leads i; out = takes.effect.out; end = Ok tt },
       );
       keeps = state;

@@ -37,7 +37,7 @@ use Rattle.conary_cli.specs.declared.words.Command.{Command}
 use Rattle.conary_cli.specs.declared.words.Command.TheVariants as command
 use Rattle.conary_cli.specs.Calls.{AreCall}
 use Rattle.conary_cli.specs.Commands.{erasing, meaning}
-use Rattle.conary_cli.specs.Lines.{all_shown, heard, silent, unheard, CallLine}
+use Rattle.conary_cli.specs.Lines.{all_shown, shown_as, unshown, unshown_outcome, CallLine}
 use Rattle.conary_cli.specs.Lives.{last_state}
 use Rattle.conary_cli.specs.Several.{AreBatchLines, AreDemoLines}
 use Rattle.conary_cli.specs.Words.{AreWords}
@@ -87,26 +87,26 @@ each_once laws (command.Move way label given) = laws.move way label given
 -- ---- a command of which nothing is written
 
 abbrev OwnOf : (Result Effect Refusal → Type 0) → Result Effect Refusal → Type 0
-OwnOf Is outcome = (own : Result Effect Refusal) × Is own × (outcome ≡ unheard own)
+OwnOf Is outcome = (own : Result Effect Refusal) × Is own × (outcome ≡ unshown_outcome own)
 
 then_own : {A : Type 0} (test : Result A Refusal) (Is IsSilent : A → Result Effect Refusal → Type 0) → ((x : A) (o : Result Effect Refusal) → IsSilent x o → OwnOf (Is x) o)
     → (o : Result Effect Refusal) → Then test IsSilent o → OwnOf (Then test Is) o
 then_own (Ok x) Is IsSilent each o h = each x o h
 then_own (Err r) Is IsSilent each o h = (Err r, refl, h)
 
-pub silent_own : (m : Meaning) (s : State) (input : List ℕ) (o : Result Effect Refusal) → Outcome (silent m) s input o → OwnOf (Outcome m s input) o
-silent_own m s input o h = then_own (fixed_dirs (tree_of s.root)) (λ _. Then (given m.takes_input input) (m.IsOutcome s)) (λ _. Then (given m.takes_input input) ((silent m).IsOutcome s))
-    (λ _. then_own (given m.takes_input input) (m.IsOutcome s) ((silent m).IsOutcome s) (λ bytes p own. own)) o h
+pub unshown_own : (m : Meaning) (s : State) (input : List ℕ) (o : Result Effect Refusal) → Outcome (unshown m) s input o → OwnOf (Outcome m s input) o
+unshown_own m s input o h = then_own (fixed_dirs (tree_of s.root)) (λ _. Then (given m.takes_input input) (m.IsOutcome s)) (λ _. Then (given m.takes_input input) ((unshown m).IsOutcome s))
+    (λ _. then_own (given m.takes_input input) (m.IsOutcome s) ((unshown m).IsOutcome s) (λ bytes p own. own)) o h
 
-silent_once : (m : Meaning) → HasOneOutcome m → HasOneOutcome (silent m)
-silent_once m one s input state a b h g =
-    let p = silent_own m s input a h in
-    let q = silent_own m s input b g in
-    p.2 ∙ ap unheard (one s input state p.0 q.0 p.1 q.1) ∙ sym q.2
+unshown_once : (m : Meaning) → HasOneOutcome m → HasOneOutcome (unshown m)
+unshown_once m one s input state a b h g =
+    let p = unshown_own m s input a h in
+    let q = unshown_own m s input b g in
+    p.2 ∙ ap unshown_outcome (one s input state p.0 q.0 p.1 q.1) ∙ sym q.2
 
-heard_once : (shown : Bool) (m : Meaning) → HasOneOutcome m → HasOneOutcome (heard shown m)
-heard_once true m one = one
-heard_once false m one = silent_once m one
+shown_once : (shown : Bool) (m : Meaning) → HasOneOutcome m → HasOneOutcome (shown_as shown m)
+shown_once true m one = one
+shown_once false m one = unshown_once m one
 
 -- ---- which lines
 
@@ -159,7 +159,7 @@ pub record ReadingLaws : Type 0 where
 
 module _ (laws : LineLaws) where
   answers_by_once : (expected : Result Command Failure) (l : CallLine) (s : State) → IsState s → AtMostOne (AnswersBy expected l s)
-  answers_by_once (Ok c) l s state a b h g = h.2 ∙ ap (answer_of s) (heard_once l.shown (meaning c) (laws.outcomes c) s l.line.input state h.0 g.0 h.1 g.1) ∙ sym g.2
+  answers_by_once (Ok c) l s state a b h g = h.2 ∙ ap (answer_of s) (shown_once l.shown (meaning c) (laws.outcomes c) s l.line.input state h.0 g.0 h.1 g.1) ∙ sym g.2
   answers_by_once (Err e) l s state a b h g = h ∙ sym g
 
   pub line_once : (l : CallLine) (s : State) → IsState s → AtMostOne (AnswersLine l s)

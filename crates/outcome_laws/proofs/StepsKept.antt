@@ -10,12 +10,12 @@ use Rattle.conary_cli.specs.cli-call.system-core.Restoring.{IsUnedited}
 use Rattle.conary_cli.specs.declared.words.Command.{Command}
 use Rattle.conary_cli.specs.declared.words.Command.TheVariants as command
 use Rattle.conary_cli.specs.Commands.{erasing, meaning}
-use Rattle.conary_cli.specs.Lines.{heard, unheard, CallLine}
+use Rattle.conary_cli.specs.Lines.{shown_as, unshown_outcome, CallLine}
 use Rattle.outcome_laws.specs.OneOutcome.{IsState}
 use Rattle.outcome_laws.specs.RootSteps.{HasSoundLists, IsRootStep, StepsRoot}
 use Rattle.outcome_laws.specs.Machine.{answer_of, Answer, AnswersBy, AnswersLine}
 use Rattle.outcome_laws.specs.Histories.{called, crashed, altered, AfterCall, AfterEdit, AfterLines, Event, Folds, OfEdits}
-use Rattle.outcome_laws.proofs.OneAnswer.{silent_own}
+use Rattle.outcome_laws.proofs.OneAnswer.{unshown_own}
 use Rattle.outcome_laws.proofs.RootSteps.{commit_steps, cook_steps, erase_steps, install_steps, list_committed_steps, list_installed_steps, list_jobs_steps, local_steps, move_steps, roll_back_steps, send_steps, show_steps, update_input_steps, update_specs_steps, verify_fully_steps, verify_steps, EachSteps}
 use Rattle.outcome_laws.proofs.SinceJobs.{edit_stands, follows_first, follows_last, follows_on, stands_first, stands_last, stands_on, Follows, Stands}
 use Rattle.outcome_laws.proofs.SoundLists.{sound_on}
@@ -42,22 +42,22 @@ each_steps (command.Move way label given) = move_steps way label given
 
 -- ---- a line
 
-unheard_step : (s : State) (own : Result Effect Refusal) → StepsRoot s own → StepsRoot s (unheard own)
-unheard_step s (Ok e) h = h
-unheard_step s (Err r) h = tt
+unshown_step : (s : State) (own : Result Effect Refusal) → StepsRoot s own → StepsRoot s (unshown_outcome own)
+unshown_step s (Ok e) h = h
+unshown_step s (Err r) h = tt
 
-heard_steps : (shown : Bool) (c : Command) → EachSteps (heard shown (meaning c))
-heard_steps true c s input o h = each_steps c s input o h
-heard_steps false c s input o h =
-    let own = silent_own (meaning c) s input o h in
-    subst (StepsRoot s) (sym own.2) (unheard_step s own.0 (each_steps c s input own.0 own.1))
+shown_steps : (shown : Bool) (c : Command) → EachSteps (shown_as shown (meaning c))
+shown_steps true c s input o h = each_steps c s input o h
+shown_steps false c s input o h =
+    let own = unshown_own (meaning c) s input o h in
+    subst (StepsRoot s) (sym own.2) (unshown_step s own.0 (each_steps c s input own.0 own.1))
 
 answered_step : (s : State) (o : Result Effect Refusal) → StepsRoot s o → IsRootStep s.root (answer_of s o).next.root
 answered_step s (Ok e) h = h
 answered_step s (Err r) h = inl refl
 
 step_by : (expected : Result Command Failure) (l : CallLine) (s : State) (a : Answer) → AnswersBy expected l s a → IsRootStep s.root a.next.root
-step_by (Ok c) l s a h = subst (λ (x : Answer). IsRootStep s.root x.next.root) (sym h.2) (answered_step s h.0 (heard_steps l.shown c s l.line.input h.0 h.1))
+step_by (Ok c) l s a h = subst (λ (x : Answer). IsRootStep s.root x.next.root) (sym h.2) (answered_step s h.0 (shown_steps l.shown c s l.line.input h.0 h.1))
 step_by (Err e) l s a h = subst (λ (x : Answer). IsRootStep s.root x.next.root) (sym h) (inl refl)
 
 pub line_step : (l : CallLine) (s : State) (a : Answer) → AnswersLine l s a → IsRootStep s.root a.next.root

@@ -15,7 +15,7 @@ use Rattle.conary_cli.specs.declared.call_words.Call.TheVariants as call
 use Rattle.conary_cli.specs.declared.words.Command.{Command}
 use Rattle.conary_cli.specs.Calls.{AreCall}
 use Rattle.conary_cli.specs.Commands.{meaning}
-use Rattle.conary_cli.specs.Lines.{heard, CallLine}
+use Rattle.conary_cli.specs.Lines.{shown_as, CallLine}
 use Rattle.conary_cli.specs.Several.{AreBatchLines, AreDemoLines}
 use Rattle.conary_cli.specs.Words.{AreWords}
 use Rattle.outcome_laws.specs.OneOutcome.{IsState}
@@ -39,7 +39,7 @@ no_command s e = record { next = s; out = []; end = Err e }
 
 -- by what its words are
 abbrev pub AnswersBy : Result Command Failure → CallLine → State → Answer → Type 0
-AnswersBy (Ok c) l s a = (outcome : Result Effect Refusal) × Outcome (heard l.shown (meaning c)) s l.line.input outcome × (a ≡ answer_of s outcome)
+AnswersBy (Ok c) l s a = (outcome : Result Effect Refusal) × Outcome (shown_as l.shown (meaning c)) s l.line.input outcome × (a ≡ answer_of s outcome)
 AnswersBy (Err e) l s a = a ≡ no_command s e
 
 -- THE ANSWER to a line in a state, by what its words are. The state after it is one of the machine's, which all keep the rules.

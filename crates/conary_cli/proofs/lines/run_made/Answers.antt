@@ -7,6 +7,6 @@ use Rattle.conary_cli.proofs.lines.run_made.Goals as goal
 pub returns : goal.returns
 returns g c =
     let old = moment g.O.Sink.sink c.args.root.now c.args.repo.now c.args.opened.now c.args.out.now in
-    let new = moment g.O.Sink.sink c.run_silent.new.root c.run_silent.new.repo c.run_silent.new.opened c.args.out.now in
-    subst (λ (b : Bool). RunsOne g.T.TreeDisk.disk g.P.TreeDisk.disk (record { shown = b; line = c.args.line.now }) old new c.run_silent.result) (sym c.if-shown.false)
-    (c.run_silent.ensures (sink_state g.O.Sink.sink c.args.out.now))
+    let new = moment g.O.Sink.sink c.run_unshown.new.root c.run_unshown.new.repo c.run_unshown.new.opened c.args.out.now in
+    subst (λ (b : Bool). RunsOne g.T.TreeDisk.disk g.P.TreeDisk.disk (record { shown = b; line = c.args.line.now }) old new c.run_unshown.result) (sym c.if-shown.false)
+    (c.run_unshown.ensures (sink_state g.O.Sink.sink c.args.out.now))

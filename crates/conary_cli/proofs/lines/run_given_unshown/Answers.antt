@@ -5,8 +5,8 @@ use Rattle.conary_cli.specs.Lines.{CallLine, GivesOf, RunsOf}
 use Rattle.conary_cli.specs.Commands.{meaning}
 use Rattle.conary_cli.proofs.LineWords.{at_out, line_done, refused_line}
 use Rattle.conary_cli.proofs.RecordEnds.{written_whole}
-use Rattle.conary_cli.proofs.Silent.{silent_line}
-use Rattle.conary_cli.proofs.lines.run_given_silently.Goals as goal
+use Rattle.conary_cli.proofs.Unshown.{unshown_line}
+use Rattle.conary_cli.proofs.lines.run_given_unshown.Goals as goal
 
 pub returns-in_err-input : goal.returns-in_err-input
 returns-in_err-input g c = λ out.
@@ -26,7 +26,7 @@ returns-in_err-perform g c = λ out.
     let e = c.in_err-perform.field-0.0 in
     err_is (RunsOf g.T.TreeDisk.disk g.P.TreeDisk.disk (Ok command) l at new) c.from_residual-in_err-perform.result e c.from_residual-in_err-perform.ensures.1
     (line_done g.T.TreeDisk.disk g.P.TreeDisk.disk l command at c.in_ok-input.input.now (subst (λ (x : List ℕ). GivesOf (meaning c.args.command.now).takes_input x (Ok c.in_ok-input.input.now)) c.get.ensures c.in_ok-input.ensures.ok) new (Err e)
-    (silent_line command c.in_ok-input.input.now old after (Err e) out c.in_err-perform.ensures.performs)
+    (unshown_line command c.in_ok-input.input.now old after (Err e) out c.in_err-perform.ensures.performs)
     (λ told. written_whole command (g.T.TreeDisk.disk.reads c.args.root.now) c.args.opened.now.db (Err e) out out (Err e) (refl, refl) (c.in_err-perform.ensures.performs.records told)) (λ off. refl) (λ is. absurd (cc is)))
 
 pub returns : goal.returns
@@ -38,4 +38,4 @@ returns g c = λ out.
     let l : CallLine = record { shown = false; line = c.args.line.now } in
     let command = c.args.command.now in
     line_done g.T.TreeDisk.disk g.P.TreeDisk.disk l command at c.in_ok-input.input.now (subst (λ (x : List ℕ). GivesOf (meaning c.args.command.now).takes_input x (Ok c.in_ok-input.input.now)) c.get.ensures c.in_ok-input.ensures.ok) new (Ok tt)
-    (silent_line command c.in_ok-input.input.now old after (Ok c.in_ok-perform.field-0) out c.in_ok-perform.ensures.performs) (λ told. c.in_ok-perform.ensures.performs.records told) (λ off. refl) (λ is. c.in_ok-perform.ensures.again)
+    (unshown_line command c.in_ok-input.input.now old after (Ok c.in_ok-perform.field-0) out c.in_ok-perform.ensures.performs) (λ told. c.in_ok-perform.ensures.performs.records told) (λ off. refl) (λ is. c.in_ok-perform.ensures.again)
