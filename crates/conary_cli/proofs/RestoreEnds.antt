@@ -43,22 +43,22 @@ is_system x s (inr two) = two.system
 -- ---- all jobs down to a number
 
 module _ (s : SystemState) (system : IsSystemState s) (number : ℕ) where
-  items : All IsStackItem (jobs_to number s.stack)
-  items = all_front IsStackItem (jobs_to number s.stack) (jobs_below number s.stack) (subst (All IsStackItem) (split_at number s.stack) system.olds)
+  pub items_to : All IsStackItem (jobs_to number s.stack)
+  items_to = all_front IsStackItem (jobs_to number s.stack) (jobs_below number s.stack) (subst (All IsStackItem) (split_at number s.stack) system.olds)
 
   all_restored_to : (y : Tree) → StoresSystem y (rolled_back_to number s) → AreRestored (jobs_to number s.stack) s (db_of (rolled_back_to number s)) y
   all_restored_to y stores = record {
-    each = λ q out. managed y (rolled_back_to number s) stores q out ∙ after_tree (jobs_to number s.stack) (jobs_below number s.stack) s items q;
+    each = λ q out. managed y (rolled_back_to number s) stores q out ∙ after_tree (jobs_to number s.stack) (jobs_below number s.stack) s items_to q;
     list = after_list (jobs_to number s.stack) (jobs_below number s.stack) s;
     whole = λ follow q out. managed y (rolled_back_to number s) stores q out
-        ∙ ap (λ (t : Tree). get t q) (after_whole (jobs_to number s.stack) (jobs_below number s.stack) s items follow);
+        ∙ ap (λ (t : Tree). get t q) (after_whole (jobs_to number s.stack) (jobs_below number s.stack) s items_to follow);
   }
 
   item_of : (newer : List StackItem) (o : StackItem) (olds : List StackItem) → s.stack ≡ newer ++ o ∷ olds → IsStackItem o
   item_of newer o olds stack = all_middle IsStackItem newer o olds (subst (All IsStackItem) stack system.olds)
 
   module _ (has : HasJob s.stack number) (unedited : AreUnedited s number) where
-    exception_to : (why : Refusal) → IsRefusalTo s number why → IsExceptionTo s number why
+    pub exception_to : (why : Refusal) → IsRefusalTo s number why → IsExceptionTo s number why
     exception_to StackEmpty is = absurd (nothing_in has.0 (subst (λ (l : List StackItem). Contains l has.0) is has.1))
     exception_to (NoJob n) is = absurd (is.2 has)
     exception_to (Edited path) is = record {
