@@ -68,9 +68,11 @@ fn run_given_unshown<T: TreeDisk, P: TreeDisk>(
     Ok(())
 }
 
-// Runs a line, and writes what it answers.
-fn run_shown<O: Sink, T: TreeDisk, P: TreeDisk>(
+// The same, and writes what it answers, or nothing.
+fn run_given_as<O: Sink, T: TreeDisk, P: TreeDisk>(
     alloc: Global,
+    command: &Command,
+    shown: bool,
     line: &Line,
     opened: &mut Opened,
     out: &mut O,
@@ -78,25 +80,12 @@ fn run_shown<O: Sink, T: TreeDisk, P: TreeDisk>(
     root: &mut T,
 ) -> Result<(), Failure>
     requires { AreReady T.disk P.disk (disks root.old repo.old opened.old) }
-    ensures { RunsOne T.disk P.disk (record { shown = true; line = line.now }) (moment O.sink root.old repo.old opened.old out.old) (moment O.sink root.new repo.new opened.new out.new) result }
+    ensures { RunsOf T.disk P.disk (Ok command.now) (record { shown = shown; line = line.now }) (moment O.sink root.old repo.old opened.old out.old) (moment O.sink root.new repo.new opened.new out.new) result }
 {
-    let command = read_words(alloc, line.words.get())?;
-    run_given(alloc, &command, line, opened, out, repo, root)
-}
-
-// Runs a line, and writes nothing.
-fn run_unshown<T: TreeDisk, P: TreeDisk>(
-    alloc: Global,
-    line: &Line,
-    opened: &mut Opened,
-    repo: &mut P,
-    root: &mut T,
-) -> Result<(), Failure>
-    requires { AreReady T.disk P.disk (disks root.old repo.old opened.old) }
-    ensures { (out : SinkState) → RunsOne T.disk P.disk (record { shown = false; line = line.now }) (record { at = disks root.old repo.old opened.old; out = out }) (record { at = disks root.new repo.new opened.new; out = out }) result }
-{
-    let command = read_words(alloc, line.words.get())?;
-    run_given_unshown(alloc, &command, line, opened, repo, root)
+    if shown {
+        return run_given(alloc, command, line, opened, out, repo, root);
+    }
+    run_given_unshown(alloc, command, line, opened, repo, root)
 }
 
 // Runs a line, and writes what it answers, or nothing.
@@ -112,10 +101,8 @@ fn run_made<O: Sink, T: TreeDisk, P: TreeDisk>(
     requires { AreReady T.disk P.disk (disks root.old repo.old opened.old) }
     ensures { RunsOne T.disk P.disk (record { shown = shown; line = line.now }) (moment O.sink root.old repo.old opened.old out.old) (moment O.sink root.new repo.new opened.new out.new) result }
 {
-    if shown {
-        return run_shown(alloc, line, opened, out, repo, root);
-    }
-    run_unshown(alloc, line, opened, repo, root)
+    let command = read_words(alloc, line.words.get())?;
+    run_given_as(alloc, &command, shown, line, opened, out, repo, root)
 }
 
 /// Runs lines one after the other, up to the first that doesn't end in status 0.
@@ -131,7 +118,7 @@ pub fn run_lines<O: Sink, T: TreeDisk, P: TreeDisk>(
     ensures { RunsLines T.disk P.disk (all_shown lines.now) (moment O.sink root.old repo.old opened.old out.old) (moment O.sink root.new repo.new opened.new out.new) result }
 {
     for line in lines {
-        run_shown(alloc, line, opened, out, repo, root)?;
+        run_made(alloc, true, line, opened, out, repo, root)?;
     }
     Ok(())
 }
