@@ -25,3 +25,4 @@ pub mod CountedLines
 pub mod OneSpec
 pub mod OneWords
 pub mod OnDisks
+pub mod OpenedStates

@@ -6,12 +6,14 @@
 
 mod histories;
 mod images;
+mod opened;
 mod outcomes;
 
 pub use histories::{
     counted_calls, one_history, one_outcome, one_reading, restored_jobs, root_steps, sound_lists,
 };
 pub use images::{crash_histories, crash_images};
+pub use opened::opened_states;
 pub use outcomes::{
     one_commit, one_cook, one_description, one_erasure, one_installation, one_list_committed,
     one_list_installed, one_list_jobs, one_local_change, one_moving, one_rollback, one_sending,
