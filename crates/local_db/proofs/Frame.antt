@@ -37,7 +37,7 @@ olds_stay f x y after (o ∷ olds) same h = (
   olds_stay f x y o.list olds (λ q is. same q (or_right (is_job_name o.number q) _ is)) h.1,
 )
 
-database_stays : (f : Format) (x y : Tree) (list : List TroveParts) (low high : ℕ) → get y database ≡ get x database → HoldsDatabase f x list low high → HoldsDatabase f y list low high
+pub database_stays : (f : Format) (x y : Tree) (list : List TroveParts) (low high : ℕ) → get y database ≡ get x database → HoldsDatabase f x list low high → HoldsDatabase f y list low high
 database_stays f x y list low high same (absent none empty a b) = absent (same ∙ none) empty a b
 database_stays f x y list low high same (written is file) = written is (file_stays x y _ _ same file)
 

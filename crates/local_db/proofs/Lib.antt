@@ -22,6 +22,7 @@ pub mod Other
 pub mod Putting
 pub mod FileNames
 pub mod Unedited
+pub mod StagedContents
 pub use Rattle.tree_journal.proofs as tree-journal
 pub use Rattle.change_rel.proofs.trove-stream
 pub use Rattle.tree_journal.proofs.tree-disk

@@ -10,6 +10,7 @@ pub mod SystemState
 pub mod Names
 pub mod Record
 pub mod Stores
+pub mod Stage
 pub mod Steps
 pub mod RecordText
 pub use Rattle.change_rel.specs.cny-base

@@ -14,6 +14,7 @@ mod reading;
 mod record;
 mod recorded;
 mod sharing;
+mod staging;
 mod steps;
 mod writing;
 
@@ -29,6 +30,7 @@ pub use names::{base_path, database_path, record_path, saved_path};
 pub use reading::{are_allowed, are_roots, decode, is_allowed, most_bytes, read_trove};
 pub use record::{Delta, Deltas, Record, Told, ToldEntries, ToldEntry};
 pub use recorded::mark_of_record;
+pub use staging::stage;
 pub use steps::{
     migrated_system, prepared_system, puttable_writes, system_after_job, system_after_rollback,
 };
