@@ -1,0 +1,3 @@
+mod IdLists
+mod ItemFaults
+mod SetReplies
