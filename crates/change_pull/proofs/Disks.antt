@@ -43,7 +43,7 @@ no_slashes (c ∷ cs) low =
     let both = and_parts (is_low c) (list_all is_low cs) low in
     ap (λ (b : Bool). b || list_any is_slash cs) (low_no_slash c both.0) ∙ no_slashes cs both.1
 
-parent_is : (dir : Name) (number : ℕ) → is_path dir ≡ true → number < 2 ^ 32 → parent (number_path dir number) ≡ dir
+pub parent_is : (dir : Name) (number : ℕ) → is_path dir ≡ true → number < 2 ^ 32 → parent (number_path dir number) ≡ dir
 parent_is dir number path fits = parent_join dir (decimal number) path (no_slashes (decimal number) (digits_low number (omega (arith, fits))))
 
 pub number_below : (dir : Name) (number : ℕ) → is_path dir ≡ true → dir ≢ root → is_below dir (number_path dir number) ≡ true

@@ -1,5 +1,6 @@
 pub mod Contents
 pub mod Disks
+pub mod EmptyDir
 pub mod Ends
 pub mod Growing
 pub mod LastStaged

@@ -2,7 +2,7 @@
 use Rattle.std.specs.Prelude.{◌≡◌, ◌≢◌, ℕ, ◌+◌, ◌<◌, ◌≤◌, ◌^◌, IsTrue, List, [], ◌∷◌, ◌++◌, length, map, slice_get, Option, Some, None}
 use Rattle.std.specs.FinMap.{get}
 use Rattle.std.specs.Fmt.{decimal}
-use Rattle.journal_log.specs.cny-base.Path.{join}
+use Rattle.journal_log.specs.cny-base.Path.{is_path, join, root}
 use Rattle.journal_log.specs.cny-base.Below.{is_below}
 use Rattle.journal_log.specs.cny-base.declared.node.Node.{Node}
 use Rattle.journal_log.specs.cny-base.declared.node.Node.TheVariants.{File}
@@ -29,6 +29,13 @@ pub record HoldsFiles (tree : Tree) (dir : Name) (files : List (List ℕ)) : Typ
 pub record HasRoomFrom (tree : Tree) (dir : Name) (number : ℕ) : Type 0 where
   pub stands : IsTrue (is_dir_at tree dir)
   pub free : (later : ℕ) → number ≤ later → later < 2 ^ 32 → IsTrue (can_append tree (number_path dir later))
+
+-- A directory that isn't `/` stands there, and nothing below it.
+pub record IsEmptyDir (tree : Tree) (dir : Name) : Type 0 where
+  pub path : IsTrue (is_path dir)
+  pub not_root : dir ≢ root
+  pub stands : IsTrue (is_dir_at tree dir)
+  pub empty : (q : Name) → IsTrue (is_below dir q) → get tree q ≡ None
 
 -- the files of these contents, and of what was written of the next one
 abbrev pub files_of : List Carried → Option (List ℕ) → List (List ℕ)

@@ -7,10 +7,12 @@ mod checks;
 mod feeding;
 mod halt;
 mod item;
+mod laws;
 mod pull;
 mod reading;
 mod staged;
 mod write;
 
+pub use laws::empty_dir;
 pub use pull::{Pull, Pulled};
 pub use staged::{Staged, StagedList};
