@@ -240,8 +240,8 @@ class Soak:
             file.write(given)
             file.seek(0)
             command = [self.program, "--disk", self.room.folder / "root", self.room.folder / "repo", *words]
-            begun = time.monotonic()
             child = subprocess.Popen(command, stdin=file, stdout=subprocess.PIPE, stderr=subprocess.PIPE)
+            begun = time.monotonic()
             if kill_after is not None:
                 time.sleep(kill_after)
                 child.kill()
@@ -279,8 +279,7 @@ class Soak:
         way = random.choices(("plain", "killed", "full"), (70, 15, 15 * self.room.is_mounted))[0]
         if way == "full":
             self.room.leave(random.randint(0, 30))
-        took = self.took.get((words[0], wanted.status), 0.2)
-        after = random.triangular(0, 1.2 * took, took) if way == "killed" else None
+        after = random.uniform(0, self.took.get((words[0], wanted.status), 0.02)) if way == "killed" else None
         found = self.run(words, given, after)
         self.room.give_back()
         self.counts["commands"] += 1
