@@ -7,7 +7,6 @@ import signal
 import subprocess
 import sys
 import tempfile
-import time
 
 from jobs import manifest_of, nodes_of
 from tools.model import repository
@@ -20,6 +19,8 @@ from tools.model.trees import Refused, Tree, is_within
 NAMES, FILES, LABELS = ("kill-a", "kill-b", "kill-c"), 4, ("soak.example.com@ex:devel", "soak.example.com@ex:stable")
 CONFIGS = ("", f"installLabelPath {LABELS[0]}\n", f"# none\ninstallLabelPath {LABELS[1]} {LABELS[0]}\nflavor ~ssl\n", "installLabelPath x\n")
 SIZE, PAGE, TOLD_EACH = 64 << 20, 4096, 100
+# The calls before which a command is killed, and at most the how manieth of one.
+KILLED_AT, LAST, HAS_STRACE = ("openat", "write", "fsync", "rename", "unlink", "mkdir", "chmod", "fchmod"), 12, bool(shutil.which("strace"))
 
 
 # ---- what stands on the host
@@ -105,6 +106,13 @@ class Answer:
         call = Call([os.fsencode(word) for word in words], streams, root, repo)
         self.status, self.out, self.err = call.status, call.out, call.err
         self.state = State(root.nodes, repo.nodes)
+
+
+def killing():
+    """What kills a command before a call of the host that is picked at random."""
+    call = random.choice(KILLED_AT)
+    at = f"inject={call}:signal=SIGKILL:when={random.randint(1, LAST)}"
+    return ["strace", "-f", "-qq", "-o", "/dev/null", "-e", f"trace={call}", "-e", at]
 
 
 def states_in(before, words, given):
@@ -231,24 +239,18 @@ class Picked:
 
 class Soak:
     def __init__(self, program, room):
-        self.program, self.room, self.picked, self.took = program, room, Picked(), {}
+        self.program, self.room, self.picked = program, room, Picked()
         self.counts = {"commands": 0, "edits": 0, "killed": 0, "without room": 0, "before": 0, "after": 0}
         self.statuses, self.kinds = {}, {}
 
-    def run(self, words, given, kill_after=None):
+    def run(self, words, given, before=()):
+        """Runs a command, behind these words. Answers its status, negative where it was killed, and what it wrote."""
         with tempfile.TemporaryFile() as file:
             file.write(given)
             file.seek(0)
-            command = [self.program, "--disk", self.room.folder / "root", self.room.folder / "repo", *words]
-            child = subprocess.Popen(command, stdin=file, stdout=subprocess.PIPE, stderr=subprocess.PIPE)
-            begun = time.monotonic()
-            if kill_after is not None:
-                time.sleep(kill_after)
-                child.kill()
-            out, err = child.communicate()
-        if kill_after is None:
-            self.took[words[0], child.returncode] = time.monotonic() - begun
-        return child.returncode, out, err
+            command = [*before, self.program, "--disk", self.room.folder / "root", self.room.folder / "repo", *words]
+            done = subprocess.run(command, stdin=file, stdout=subprocess.PIPE, stderr=subprocess.PIPE)
+        return done.returncode, done.stdout, done.stderr
 
     def check_answer(self, wanted, found, state):
         if found != (wanted.status, wanted.out, wanted.err):
@@ -276,11 +278,10 @@ class Soak:
         before = self.room.state()
         words, given = self.picked.command(before)
         wanted = Answer(before, words, given)
-        way = random.choices(("plain", "killed", "full"), (70, 15, 15 * self.room.is_mounted))[0]
+        way = random.choices(("plain", "killed", "full"), (70, 15 * HAS_STRACE, 15 * self.room.is_mounted))[0]
         if way == "full":
             self.room.leave(random.randint(0, 30))
-        after = random.uniform(0, self.took.get((words[0], wanted.status), 0.02)) if way == "killed" else None
-        found = self.run(words, given, after)
+        found = self.run(words, given, killing() if way == "killed" else ())
         self.room.give_back()
         self.counts["commands"] += 1
         self.kinds[words[0]] = self.kinds.get(words[0], 0) + 1

@@ -4,7 +4,7 @@
 # or found no room, the next command must find the state before it or the one after it. Says how many of each there were, and ends with 1 at
 # the first difference.
 # Usage: tools/host/soak.sh [COMMANDS [SEED]]
-# The directories lie on a small tmpfs where the user may mount one; else no disk gets full. CONARY may name another program than the proved
+# The directories lie on a small tmpfs where the user may mount one; else no disk gets full. Kills need strace. CONARY may name another program than the proved
 # one of this copy.
 set -eu
 top=$(CDPATH='' cd "$(dirname "$0")/../.." && pwd)
