@@ -4,6 +4,7 @@ pub mod Inverse
 pub mod Taking
 pub mod Wanting
 pub mod Migrated
+pub mod Seen
 pub mod Entries
 pub mod Database
 pub mod Saving

@@ -2,7 +2,6 @@
 use Rattle.std.specs.Prelude.{◌≡◌, ◌≢◌, ◌⊎◌, ℕ, zero, suc, ◌-◌, Bool, true, false, if◌then◌else◌, List, [], ◌∷◌, Option, Some, None, All, Contains}
 use Rattle.std.specs.FinMap.{get}
 use Rattle.job_targets.specs.cny-base.Below.{begins_with}
-use Rattle.job_targets.specs.content-store.Store.{file_bytes}
 use Rattle.job_targets.specs.cny-base.declared.node.Node.{Node}
 use Rattle.job_targets.specs.cny-base.declared.node.Node.TheVariants as node
 use Rattle.job_targets.specs.cny-base.declared.stop.Stop.{Stop}
@@ -114,17 +113,6 @@ IsRecordsStop told x db rose e = IsReadStop told (IsDamagedRecord One x (job_cou
 abbrev pub IsOldDatabase : Tree → Option Db → Type 0
 IsOldDatabase x None = is_up_to_date (get x database) ≡ true
 IsOldDatabase x (Some db) = (is_up_to_date (get x database) ≡ false) × HoldsDatabase One x db.installed db.oldest db.newest
-
--- a file of these bytes stands there, or nothing
-abbrev pub IsFoundFile : Option Node → Option (List ℕ) → Type 0
-IsFoundFile node None = node ≡ None
-IsFoundFile node (Some bytes) = file_bytes node ≡ Some bytes
-
--- something else stands at this path
-pub record IsOtherAt (x : Tree) (at path : Name) : Type 0 where
-  pub path_is : path ≡ at
-  pub some : get x at ≢ None
-  pub no_file : file_bytes (get x at) ≡ None
 
 -- the bytes are this database in format 1
 pub record IsOldFile (db : Db) (bytes : List ℕ) : Type 0 where

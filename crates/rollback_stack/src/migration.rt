@@ -1,5 +1,5 @@
 //! The writes that bring a root from format 1 to format 2.
-ghost use Rattle.std.specs.Prelude.{◌≡◌, ◌≤◌, IfErr, IfOk, IfSome, Ok, OnOk};
+ghost use Rattle.std.specs.Prelude.{◌≡◌, ◌≤◌, IfErr, IfOk, IfSome, IsTrue, Ok, OnOk};
 ghost use Rattle.std.specs.FinMap.{get};
 ghost use Rattle.job_targets.specs.cny-base.Below.{begins_with};
 ghost use Rattle.job_targets.specs.cny-base.Count.{Rose};
@@ -9,18 +9,17 @@ ghost use Rattle.local_db.specs.Installed.{IsInstalled};
 ghost use Rattle.local_db.specs.Stores.{IsDatabase};
 ghost use Rattle.local_db.specs.declared.format.Format.TheVariants.{One, Two};
 ghost use Rattle.job_targets.specs.tree-disk.Disk.{Reads};
-ghost use Rattle.job_targets.specs.tree-disk.Looks.{sees_nothing};
-ghost use Rattle.job_targets.specs.tree-disk.Rows.{look_of};
+ghost use Rattle.job_targets.specs.tree-disk.Rows.{bytes_at, is_file_at};
 ghost use Rattle.job_targets.specs.tree-disk.Steps.{IsDiskStop, Tests};
-ghost use Rattle.rollback_stack.specs.Migrated.{AreAllRewritten, AreWritesOf, HasFile, HasRewritten, IsFileStop, IsFoundFile, IsMigrated, IsMigratedStop, IsNoDatabase, IsOldDatabase, IsOldIn, IsOtherAt, IsRecordsStop};
+ghost use Rattle.rollback_stack.specs.Migrated.{AreAllRewritten, AreWritesOf, HasFile, HasRewritten, IsFileStop, IsMigrated, IsMigratedStop, IsNoDatabase, IsOldDatabase, IsOldIn, IsRecordsStop};
+ghost use Rattle.rollback_stack.specs.Seen.{file_as, no_file_as, seen_as};
 
 use crate::back::{Wants, puts_of};
 use crate::job_reading::{check_record, read_record};
 use job_record::{distinct_records, encode, records_by_lists};
-use job_targets::cny_base::{Bytes, Copies, Mode, OutOfMemory, Path, Stop};
-use job_targets::content_store::file_at;
+use job_targets::cny_base::{Bytes, FORMAT_1_DATABASE_LIMIT, Mode, OutOfMemory, Path, Stop};
 use job_targets::journal_log::{Puts, Want};
-use job_targets::tree_disk::{TreeDisk, steps};
+use job_targets::tree_disk::{Look, TreeDisk, steps};
 use local_db::{Db, Format, database_path, decode_file, encode_within, record_path};
 use past_jobs::PastList;
 use std::alloc::Global;
@@ -29,37 +28,17 @@ use std::collections::BTreeMap;
 /// What the file of a database of format 2 begins with.
 const MAGIC: &[u8] = b"CNYDB02\n";
 
-// Whether nothing stands at the path.
-fn stands_nothing<D: TreeDisk>(alloc: Global, disk: &mut D, path: &Path) -> Result<bool, Stop>
-    ensures tests { Tests D.disk (λ nothing. nothing)
-        (λ tree. Ok (sees_nothing (look_of tree path.now)))
-        disk.old disk.new result }
-    ensures stops { IfErr result IsDiskStop }
-{
-    let look = steps::look(alloc, disk, path)?;
-    Ok(look.is_nothing())
-}
+/// How many bytes that is.
+const MAGIC_LEN: usize = 8;
 
-// The bytes of the file at the path; none where nothing stands there, and `Damaged` where something else does.
-fn file_or_nothing<D: TreeDisk>(
-    alloc: Global,
-    disk: &mut D,
-    path: &Path,
-) -> Result<Option<Bytes>, Stop>
-    ensures value { Reads D.disk disk.old disk.new (IfOk result (IsFoundFile (get (D.disk.reads disk.old) path.now))) }
-    ensures stops { IfErr result (IsReadStop D.disk.tells (IsOtherAt (D.disk.reads disk.old) path.now)
-        (Rose (D.disk.faults disk.old) (D.disk.faults disk.new))) }
-    ensures later { D.disk.faults disk.old ≤ D.disk.faults disk.new }
-{
-    let nothing = stands_nothing(alloc, disk, path)?;
-    if nothing {
-        return Ok(None);
-    }
-    let found = file_at(alloc, disk, path)?;
-    match found {
-        Some(bytes) => Ok(Some(bytes)),
-        None => Err(Stop::Damaged { path: path.copy()? }),
-    }
+/// What stands at the name of a database that may be one of format 1.
+#[derive(Drop)]
+pub(crate) enum Seen {
+    /// Nothing, or a file that begins as a database of format 2, of which no more is read.
+    Current,
+    /// A file of no more bytes than a database of format 1 has at most.
+    File(Bytes),
+    Other,
 }
 
 // Whether the bytes begin as those of a database of format 2.
@@ -67,6 +46,61 @@ fn has_magic(bytes: &[u8]) -> bool
     ensures { result ≡ begins_with (database_magic Two) bytes.now }
 {
     bytes.starts_with(MAGIC)
+}
+
+// Whether the file at the path begins as a database of format 2. Nothing behind that is read.
+fn begins_in_two<D: TreeDisk>(alloc: Global, disk: &mut D, path: &Path) -> Result<bool, Stop>
+    requires { IsTrue D.disk.tells → IsTrue (is_file_at (D.disk.reads disk.old) path.now) }
+    ensures tests { Tests D.disk (λ begins. begins)
+        (λ tree. Ok (begins_with (database_magic Two) (bytes_at tree path.now)))
+        disk.old disk.new result }
+    ensures stops { IfErr result IsDiskStop }
+{
+    let mut front = [0u8; MAGIC_LEN];
+    let count = steps::read_at(alloc, disk, path, 0, &mut front)?;
+    Ok(has_magic(&front[..count]))
+}
+
+// The file at the path, as it is seen.
+fn file_seen<D: TreeDisk>(alloc: Global, disk: &mut D, path: &Path) -> Result<Seen, Stop>
+    requires { IsTrue D.disk.tells → IsTrue (is_file_at (D.disk.reads disk.old) path.now) }
+    ensures tests { Tests D.disk (λ seen. seen)
+        (λ tree. Ok (file_as (bytes_at tree path.now)))
+        disk.old disk.new result }
+    ensures stops { IfErr result IsDiskStop }
+{
+    if begins_in_two(alloc, disk, path)? {
+        return Ok(Seen::Current);
+    }
+    match steps::read_whole(alloc, disk, path, FORMAT_1_DATABASE_LIMIT as u64)? {
+        Some(bytes) => Ok(Seen::File(bytes)),
+        None => Ok(Seen::Other),
+    }
+}
+
+// What is seen, where it is no file.
+fn no_file(look: &Look) -> Seen
+    ensures { result ≡ no_file_as look.now }
+{
+    if look.is_nothing() {
+        Seen::Current
+    } else {
+        Seen::Other
+    }
+}
+
+// What stands at the path.
+fn seen_at<D: TreeDisk>(alloc: Global, disk: &mut D, path: &Path) -> Result<Seen, Stop>
+    ensures tests { Tests D.disk (λ seen. seen)
+        (λ tree. Ok (seen_as (get tree path.now)))
+        disk.old disk.new result }
+    ensures stops { IfErr result IsDiskStop }
+{
+    let look = steps::look(alloc, disk, path)?;
+    if look.is_file() {
+        return file_seen(alloc, disk, path);
+    }
+    Ok(no_file(&look))
 }
 
 // The database of format 1 that the bytes of a file are; none where they begin as those of format 2.
@@ -82,7 +116,7 @@ fn old_file(alloc: Global, path: Path, bytes: &[u8]) -> Result<Option<Db>, Stop>
 }
 
 // The database, where its file is to be one of format 1; none where nothing stands at its name, or a file that begins as one of
-// format 2.
+// format 2, of which no more is read.
 fn old_database<D: TreeDisk>(alloc: Global, disk: &mut D) -> Result<Option<Db>, Stop>
     ensures value { Reads D.disk disk.old disk.new (IfOk result (IsOldDatabase (D.disk.reads disk.old))) }
     // On every disk, also where it tells nothing.
@@ -92,10 +126,10 @@ fn old_database<D: TreeDisk>(alloc: Global, disk: &mut D) -> Result<Option<Db>, 
     ensures later { D.disk.faults disk.old ≤ D.disk.faults disk.new }
 {
     let path = database_path(alloc)?;
-    let found = file_or_nothing(alloc, disk, &path)?;
-    match found {
-        Some(bytes) => old_file(alloc, path, bytes.get()),
-        None => Ok(None),
+    match seen_at(alloc, disk, &path)? {
+        Seen::Current => Ok(None),
+        Seen::File(bytes) => old_file(alloc, path, bytes.get()),
+        Seen::Other => Err(Stop::Damaged { path }),
     }
 }
 
