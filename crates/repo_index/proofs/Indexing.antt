@@ -1,5 +1,5 @@
 -- An index with one trove more.
-use Rattle.std.proofs.Common.{◌≡◌, ℕ, ◌+◌, ◌<◌, Bool, true, cond, ◌||◌, List, [], ◌∷◌, ◌++◌, length, take, get_or, None, sym, ap, ◌∙◌, zero-add, append_assoc}
+use Rattle.std.proofs.Common.{◌≡◌, ℕ, ◌+◌, ◌<◌, Bool, true, cond, ◌||◌, List, [], ◌∷◌, ◌++◌, length, take, get_or, None, sym, ap, ◌∙◌, zero-add, append_assoc, subst, inl, inr, IsTrue}
 use Rattle.std.proofs.lemmas.List.{take_more}
 use Rattle.std.specs.List.{list_any}
 use Rattle.std.specs.Str.{bytes_eq}
@@ -10,8 +10,10 @@ use Rattle.trove_stream.specs.declared.parts.TroveParts.{TroveParts}
 use Rattle.repo_index.specs.declared.index.Content.{Content}
 use Rattle.repo_index.specs.declared.index.Index.{Index}
 use Rattle.repo_index.specs.Catalogue.{places_of, is_file_of, is_file_sized, names_content, trove_records}
-use Rattle.repo_index.specs.Keys.{places_in, is_size, knows, knows_sized, same_content, Extends, ExtendsMap}
+use Rattle.repo_index.specs.Keys.{places_in, is_number, knows, knows_sized, same_content, Extends, ExtendsMap}
+use Rattle.repo_index.specs.Hashes.{hash_of, is_kept, KeepsAll}
 use Rattle.repo_index.specs.Index.{IsIndexOf}
+use Rattle.repo_index.proofs.Placing.{pushed_at}
 use Rattle.repo_index.proofs.Searching.{places_from-push}
 use Rattle.trove_stream.specs.Installed.{has_name}
 use Rattle.cny_version.proofs.cny-base.Bools.{written, or_false as or-false, joined as or_assoc}
@@ -23,11 +25,18 @@ list_any-push test [] y = or-false (test y)
 list_any-push test (x ∷ xs) y = ap (λ (b : Bool). test x || b) (list_any-push test xs y) ∙ sym (or_assoc (test x) (list_any test xs) (test y))
 
 pub one_more : (troves : List TroveParts) (t : TroveParts) (place : ℕ) (old new : Index) → IsIndexOf troves old → place ≡ length troves
+    → KeepsAll old.ids new.ids → IsTrue (is_kept new.ids (hash_of t.id) place)
     → ((name : List ℕ) → places_in new.names name ≡ places_in old.names name ++ cond (bytes_eq t.id.name name) (place ∷ []) [])
     → ((name : List ℕ) → knows new.contents name ≡ (knows old.contents name || list_any (is_file_of name) t.files))
     → ((name : List ℕ) (size : ℕ) → knows_sized new.contents new.others name size ≡ (knows_sized old.contents old.others name size || list_any (is_file_sized name size) t.files))
     → IsIndexOf (troves ++ t ∷ []) new
-one_more troves t place old new is last places contents sizes = record {
+one_more troves t place old new is last keeps added places contents sizes = record {
+  ids = λ there u at. elim (pushed_at troves t u there at) [
+    | inl before ↦ keeps (hash_of u.id) there (is.ids there u before)
+    | inr end ↦
+        subst (λ (x : TroveParts). IsTrue (is_kept new.ids (hash_of x.id) there)) end.1
+        (subst (λ (n : ℕ). IsTrue (is_kept new.ids (hash_of t.id) n)) (last ∙ sym end.0) added)
+  ];
   places = λ name.
       places name
       ∙ ap (λ (l : List ℕ). l ++ cond (has_name name t) (place ∷ []) []) (is.places name)
@@ -68,5 +77,5 @@ pub other_sized : {S T : Type 0} (contents : IndexMap (List ℕ) ℕ S) (old new
 other_sized contents old new key updates name size =
     let here = same_content key (record { size = size; name = name }) in
     let before = contains same_content old (record { size = size; name = name }) in
-    ap (λ (b : Bool). is_size (get bytes_eq contents name) size || b) (updates.0 (record { size = size; name = name }) ∙ written here before)
-    ∙ sym (or_assoc (is_size (get bytes_eq contents name) size) before here)
+    ap (λ (b : Bool). is_number (get bytes_eq contents name) size || b) (updates.0 (record { size = size; name = name }) ∙ written here before)
+    ∙ sym (or_assoc (is_number (get bytes_eq contents name) size) before here)

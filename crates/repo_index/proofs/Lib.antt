@@ -1,4 +1,5 @@
 pub mod Searching
+pub mod Hashing
 pub mod Indexing
 pub mod Placing
 pub mod Branches

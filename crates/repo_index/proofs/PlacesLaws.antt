@@ -1,6 +1,6 @@
 -- What is found among the items at some places, place by place.
 use Rattle.std.specs.Prelude.{◌≡◌, ℕ, Bool, true, false, cond, List, [], ◌∷◌, ◌++◌, filter, slice_get, Option, Some, None, refl}
-use Rattle.std.specs.List.{cons_option, filter_map, find, last_or}
+use Rattle.std.specs.List.{cons_option, filter_map, last_or}
 use Rattle.std.proofs.Common.{ap, ◌∙◌, append-nil}
 use Rattle.std.proofs.lemmas.List.Elements.{filter_map-append, filter-append}
 
@@ -18,19 +18,6 @@ module _ {A : Type 0} (xs : List A) where
   at-push places place = filter_map-append (slice_get xs) places (place ∷ [])
 
   module _ (test : A → Bool) where
-    -- ---- the first that passes, from the front
-
-    pub find_at-none : (place : ℕ) (rest : List ℕ) → slice_get xs place ≡ None → find test (at (place ∷ rest)) ≡ find test (at rest)
-    find_at-none place rest none = ap (λ (o : Option A). find test (cons_option o (at rest))) none
-
-    pub find_at-other : (place : ℕ) (rest : List ℕ) (x : A) → slice_get xs place ≡ Some x → test x ≡ false → find test (at (place ∷ rest)) ≡ find test (at rest)
-    find_at-other place rest x some fails =
-        ap (λ (o : Option A). find test (cons_option o (at rest))) some ∙ ap (λ (b : Bool). cond b (Some x) (find test (at rest))) fails
-
-    pub find_at-found : (place : ℕ) (rest : List ℕ) (x : A) → slice_get xs place ≡ Some x → test x ≡ true → find test (at (place ∷ rest)) ≡ Some x
-    find_at-found place rest x some passes =
-        ap (λ (o : Option A). find test (cons_option o (at rest))) some ∙ ap (λ (b : Bool). cond b (Some x) (find test (at rest))) passes
-
     -- ---- the last that passes, from the back
 
     pub last_at-none : (places : List ℕ) (place : ℕ) → slice_get xs place ≡ None → last_or None (filter test (at (places ++ place ∷ []))) ≡ last_or None (filter test (at places))

@@ -1,53 +1,68 @@
 -- The places of troves of one id, and lists in which no two have one id.
-use Rattle.std.proofs.Common.{◌≡◌, ℕ, zero, suc, ◌+◌, ◌<◌, Bool, true, false, cond, List, [], ◌∷◌, ◌++◌, length, get_or, find, slice_get, Contains, ◌⊎◌, inl, inr, Some, None, refl, sym, ap, subst, ◌∙◌, true≢false, arith}
-use Rattle.std.specs.Str.{bytes_eq}
-use Rattle.std.specs.Cmp.Lexicographic.{nat_list_eq_equiv}
+use Rattle.std.proofs.Common.{◌≡◌, ℕ, zero, suc, ◌+◌, ◌<◌, Bool, true, false, cond, List, [], ◌∷◌, ◌++◌, length, get_or, find, slice_get, Contains, IsTrue, ◌⊎◌, inl, inr, Some, None, refl, sym, ap, subst, ◌∙◌, true≢false, arith}
 use Rattle.std.proofs.lemmas.Bool.{cases_lt}
 use Rattle.std.proofs.lemmas.Option.{slice_get-get_or, get_or_from_slice_get, none-some, same_Some}
 use Rattle.trove_stream.specs.trove-parts.declared.id.TroveId.{TroveId}
+use Rattle.trove_stream.specs.trove-parts.Id.{IsTroveId}
 use Rattle.trove_stream.specs.trove-parts.Order.{id_eq, id_equiv}
 use Rattle.trove_stream.specs.declared.parts.TroveParts.{TroveParts}
-use Rattle.repo_index.specs.Catalogue.{places_from, places_of, has_id, found, HasDistinctIds}
-use Rattle.repo_index.specs.Places.{IsPlaceOf}
-use Rattle.cny_version.proofs.cny-base.Lists.{contains_first, contains_rest}
-use Rattle.trove_stream.specs.Installed.{has_name}
-
--- ---- the place of an item that passes is among the places
-
-contains_if : (b : Bool) (n : ℕ) (xs : List ℕ) (m : ℕ) → Contains xs m → Contains (cond b (n ∷ xs) xs) m
-contains_if true n xs m h = contains_rest n m xs h
-contains_if false n xs m h = h
-
-passing_first : (b : Bool) (n m : ℕ) (xs : List ℕ) → b ≡ true → n ≡ m → Contains (cond b (n ∷ xs) xs) m
-passing_first true n m xs is same = subst (λ (k : ℕ). Contains (n ∷ xs) k) same (contains_first n xs)
-passing_first false n m xs is same = absurd (true≢false (sym is))
-
-pub place_among_passing : {A : Type 0} (n : ℕ) (test : A → Bool) (xs : List A) (i : ℕ) (x : A) → slice_get xs i ≡ Some x → test x ≡ true → Contains (places_from n test xs) (n + i)
-place_among_passing n test [] i x at passes = absurd (none-some x at)
-place_among_passing n test (y ∷ xs) zero x at passes =
-    passing_first (test y) n (n + 0) (places_from (n + 1) test xs) (ap test (same_Some y x at) ∙ passes) (omega arith)
-place_among_passing n test (y ∷ xs) (suc i) x at passes =
-    let next : n + 1 + i ≡ n + suc i = omega arith in
-    contains_if (test y) n (places_from (n + 1) test xs) (n + suc i) (subst (λ (m : ℕ). Contains (places_from (n + 1) test xs) m) next (place_among_passing (n + 1) test xs i x at passes))
-
--- the place of the trove of an id is among those of its name
-pub place_of_name : (troves : List TroveParts) (id : TroveId) (place : ℕ) → IsPlaceOf troves id place → Contains (places_of id.name troves) place
-place_of_name troves id place is =
-    let named : has_name id.name is.trove ≡ true = ap (λ (other : TroveId). bytes_eq other.name id.name) is.id_is ∙ nat_list_eq_equiv.refl id.name in
-    let from_start : 0 + place ≡ place = omega arith in
-    subst (λ (m : ℕ). Contains (places_of id.name troves) m) from_start (place_among_passing 0 (has_name id.name) troves place is.trove is.stands named)
+use Rattle.repo_index.specs.Catalogue.{has_id, found, HasDistinctIds}
+use Rattle.repo_index.specs.Places.{IsPlaceOf, HasIdAt}
 
 -- ---- one place
 
-pub one_place : (troves : List TroveParts) (id : TroveId) (i j : ℕ) → HasDistinctIds troves → IsPlaceOf troves id i → IsPlaceOf troves id j → i ≡ j
+-- two ids with the texts of a third one
+same_texts : (x y id : TroveId) → id_eq x id ≡ true → id_eq y id ≡ true → id_eq x y ≡ true
+same_texts x y id first second = sym (id_equiv.congr id x y (id_equiv.symm id x ∙ first)) ∙ (id_equiv.symm id y ∙ second)
+
+pub one_place : (troves : List TroveParts) (id : TroveId) (i j : ℕ) → HasDistinctIds troves → HasIdAt troves id i → HasIdAt troves id j → i ≡ j
 one_place troves id i j distinct first second =
-    let one_id : first.trove.id ≡ second.trove.id = first.id_is ∙ sym second.id_is in
-    distinct i j first.trove second.trove first.stands second.stands (ap (λ (other : TroveId). id_eq other second.trove.id) one_id ∙ id_equiv.refl second.trove.id)
+    distinct i j first.trove second.trove first.stands second.stands (same_texts first.trove.id second.trove.id id first.has second.has)
+
+-- an id has its own texts
+pub texts_at : (troves : List TroveParts) (id : TroveId) (place : ℕ) → IsPlaceOf troves id place → HasIdAt troves id place
+texts_at troves id place is =
+    record { trove = is.trove; stands = is.stands; has = ap (λ (other : TroveId). id_eq other id) is.id_is ∙ id_equiv.refl id }
+
+-- ids of the same texts are one id
+pub id_at : ((a b : TroveId) → IsTroveId a → IsTroveId b → IsTrue (id_eq a b) → a ≡ b) → (troves : List TroveParts) (id : TroveId) (place : ℕ) (t : TroveParts) → HasIdAt troves id place → Some t ≡ slice_get troves place → IsTroveId t.id → IsTroveId id → IsPlaceOf troves id place
+id_at one_text troves id place t at is valid id_valid =
+    let same : at.trove ≡ t = same_Some at.trove t (sym at.stands ∙ sym is) in
+    record { trove = t; stands = sym is; id_is = one_text t.id id valid id_valid (subst (λ (u : TroveParts). id_eq u.id id ≡ true) same at.has) }
+
+-- ---- what is found is what stands at the place
+
+module _ {A : Type 0} (test : A → Bool) where
+  found_later : (y x : A) (xs : List A) (i : ℕ) → find test xs ≡ Some x → ((j : ℕ) (z : A) → slice_get (y ∷ xs) j ≡ Some z → test z ≡ true → j ≡ suc i) → (b : Bool) → test y ≡ b → cond b (Some y) (find test xs) ≡ Some x
+  found_later y x xs i rest only true is = let first : 0 ≡ suc i = only 0 y refl is in absurd (omega arith)
+  found_later y x xs i rest only false is = rest
+
+  pub found_at : (xs : List A) (i : ℕ) (x : A) → slice_get xs i ≡ Some x → test x ≡ true → ((j : ℕ) (z : A) → slice_get xs j ≡ Some z → test z ≡ true → j ≡ i) → find test xs ≡ Some x
+  found_at [] i x at passes only = absurd (none-some x at)
+  found_at (y ∷ xs) zero x at passes only =
+      let same = same_Some y x at in ap (λ (b : Bool). cond b (Some y) (find test xs)) (ap test same ∙ passes) ∙ ap (λ (z : A). Some z) same
+  found_at (y ∷ xs) (suc i) x at passes only =
+      found_later y x xs i (found_at xs i x at passes (λ j z there is. (let next : suc j ≡ suc i = only (suc j) z there is in omega arith))) only (test y) refl
+
+  not_found : (y : A) (xs : List A) → find test xs ≡ None → (test y ≡ true → ⊥) → (b : Bool) → test y ≡ b → cond b (Some y) (find test xs) ≡ None
+  not_found y xs rest never true is = absurd (never is)
+  not_found y xs rest never false is = rest
+
+  pub found_nowhere : (xs : List A) → ((j : ℕ) (z : A) → slice_get xs j ≡ Some z → test z ≡ true → ⊥) → find test xs ≡ None
+  found_nowhere [] never = refl
+  found_nowhere (y ∷ xs) never = not_found y xs (found_nowhere xs (λ j z. never (suc j) z)) (never 0 y refl) (test y) refl
+
+pub found_at_place : (troves : List TroveParts) (id : TroveId) (place : ℕ) → HasDistinctIds troves → HasIdAt troves id place → found id troves ≡ slice_get troves place
+found_at_place troves id place distinct at =
+    found_at (has_id id) troves place at.trove at.stands at.has (λ j t there is. one_place troves id j place distinct (record { trove = t; stands = there; has = is }) at) ∙ sym at.stands
+
+pub found_at_none : (troves : List TroveParts) (id : TroveId) → ((place : ℕ) → HasIdAt troves id place → ⊥) → found id troves ≡ None
+found_at_none troves id never = found_nowhere (has_id id) troves (λ j t there is. never j (record { trove = t; stands = there; has = is }))
 
 -- ---- distinct ids
 
 -- an item of a longer list is one of the shorter one, or the last
-pushed_at : (troves : List TroveParts) (t x : TroveParts) (i : ℕ) → slice_get (troves ++ t ∷ []) i ≡ Some x → (slice_get troves i ≡ Some x) ⊎ ((i ≡ length troves) × (t ≡ x))
+pub pushed_at : (troves : List TroveParts) (t x : TroveParts) (i : ℕ) → slice_get (troves ++ t ∷ []) i ≡ Some x → (slice_get troves i ≡ Some x) ⊎ ((i ≡ length troves) × (t ≡ x))
 pushed_at [] t x zero at = inr (refl, same_Some t x at)
 pushed_at [] t x (suc i) at = absurd (none-some x at)
 pushed_at (y ∷ troves) t x zero at = inl at

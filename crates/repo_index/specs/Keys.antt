@@ -14,10 +14,10 @@ places_in {Z} names name = option_map_or (λ (places : Vec ℕ Z). places.items)
 abbrev pub knows : {S : Type 0} → IndexMap (List ℕ) ℕ S → List ℕ → Bool
 knows contents name = is_some (get bytes_eq contents name)
 
--- a size that there may be is this one
-abbrev pub is_size : Option ℕ → ℕ → Bool
-is_size None size = false
-is_size (Some first) size = first == size
+-- a number that there may be is this one
+abbrev pub is_number : Option ℕ → ℕ → Bool
+is_number None number = false
+is_number (Some first) number = first == number
 
 -- the same size and the same name
 abbrev pub same_content : Content → Content → Bool
@@ -25,7 +25,7 @@ same_content a b = a.size == b.size && bytes_eq a.name b.name
 
 -- a content of this name and this size is among them, as the first one of its name or as another one
 abbrev pub knows_sized : {S T : Type 0} → IndexMap (List ℕ) ℕ S → IndexSet Content T → List ℕ → ℕ → Bool
-knows_sized contents others name size = is_size (get bytes_eq contents name) size || contains same_content others (record { size = size; name = name })
+knows_sized contents others name size = is_number (get bytes_eq contents name) size || contains same_content others (record { size = size; name = name })
 
 -- those that were there stand first
 pub record Extends {K S : Type 0} (old new : IndexSet K S) : Type 0 where

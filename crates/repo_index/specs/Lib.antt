@@ -1,6 +1,7 @@
 pub mod Catalogue
 pub mod Places
 pub mod Keys
+pub mod Hashes
 pub mod Index
 pub mod Next
 pub mod Steps

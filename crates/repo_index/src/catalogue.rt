@@ -4,21 +4,21 @@ ghost use Rattle.std.specs.Option.{option_copied};
 ghost use Rattle.trove_stream.specs.cny-base.declared.limits.TheConstants.{COMMITS_LIMIT};
 ghost use Rattle.repo_index.specs.Catalogue as spec;
 ghost use Rattle.repo_index.specs.Catalogue.{no_commits, with_trove, with_commit, found, places_of, named, HasDistinctIds, IsExistsOrMemory};
-ghost use Rattle.repo_index.specs.Places.{IsPlaceOf, troves_at};
+ghost use Rattle.repo_index.specs.Places.{IsPlaceOf, troves_at, HasIdAt};
 
 use crate::index::Index;
-use crate::search::{find_among, latest_among, place_among, trove_at};
+use crate::search::{latest_among, place_by_id, trove_at};
 use cny_version::Count;
 use std::alloc::Global;
 use std::marker::Model;
 use trove_stream::Trove;
 use trove_stream::cny_base::{Copies, Fault, Name, OutOfMemory, Refusal};
-use trove_stream::trove_parts::{TroveId, id_text};
+use trove_stream::trove_parts::{TroveId, distinct_ids, id_text};
 
 /// The troves of a repository in the order in which they were committed, and how many commits it has.
 ///
 /// A place is the number of a trove in that order, from 0. Every look-up answers what a search of all troves does; it goes
-/// through an index by name, and takes no memory.
+/// through an index by id or by name, and takes no memory.
 pub struct Catalogue {
     commits: u32,
     troves: Vec<Trove>,
@@ -122,7 +122,10 @@ impl Catalogue {
     pub fn find(&self, id: &TroveId) -> Option<&Trove>
         ensures { option_copied result ≡ found id.now self.now.troves }
     {
-        find_among(self.troves(), self.by_name(&id.name), id)
+        match self.place_by_id(id) {
+            Some(place) => self.trove_at(place),
+            None => None,
+        }
     }
 
     /// The place of the trove of this id, if there is one. It is the only one.
@@ -130,7 +133,26 @@ impl Catalogue {
         ensures place { IfSome result (IsPlaceOf self.now.troves id.now) }
         ensures only { (place : ℕ) → IsPlaceOf self.now.troves id.now place → result ≡ Some place }
     {
-        place_among(self.troves(), self.by_name(&id.name), id)
+        // Ids that are equal by their texts are one id.
+        distinct_ids();
+        id.is_valid();
+        let Some(place) = self.place_by_id(id) else {
+            return None;
+        };
+        let Some(trove) = self.trove_at(place) else {
+            return None;
+        };
+        trove.id().is_valid();
+        Some(place)
+    }
+
+    // The place of the trove with the texts of this id, if there is one.
+    fn place_by_id(&self, id: &TroveId) -> Option<usize>
+        ensures distinct { HasDistinctIds self.now.troves }
+        ensures place { IfSome result (HasIdAt self.now.troves id.now) }
+        ensures only { (place : ℕ) → HasIdAt self.now.troves id.now place → result ≡ Some place }
+    {
+        place_by_id(self.troves(), self.index.ids(), id)
     }
 
     /// The places of the troves of this name, rising.

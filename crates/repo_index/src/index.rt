@@ -1,4 +1,4 @@
-//! The index: where the troves of each name stand, and which contents they name.
+//! The index: where the troves of each id and of each name stand, and which contents they name.
 ghost use Rattle.std.specs.Prelude.{◌≡◌, ◌==◌, ◌++◌, ◌∷◌, [], ◌&&◌, ◌||◌, if◌then◌else◌, length, List, ℕ, OnOk, OnErr};
 ghost use Rattle.std.specs.List.{list_any};
 ghost use Rattle.std.specs.Str.{bytes_eq};
@@ -6,10 +6,11 @@ ghost use Rattle.trove_stream.specs.declared.parts.TroveParts.{TroveParts};
 ghost use Rattle.repo_index.specs.Catalogue.{is_content, is_file_of, is_file_sized};
 ghost use Rattle.trove_stream.specs.file-stream.Record.{has_name_and_size};
 ghost use Rattle.indexmap.specs.IndexMap.{get};
-ghost use Rattle.repo_index.specs.Keys as spec;
-ghost use Rattle.repo_index.specs.Keys.{places_in, knows, knows_sized, Extends, ExtendsMap};
+ghost use Rattle.repo_index.specs.Keys.{places_in, is_number, knows, knows_sized, Extends, ExtendsMap};
+ghost use Rattle.repo_index.specs.Hashes.{KeepsAll};
 ghost use Rattle.repo_index.specs.Index.{IsIndexOf};
 
+use crate::places_by_id::{PlacesById, hash_of};
 use indexmap::{IndexMap, IndexSet};
 use std::alloc::Global;
 use trove_stream::Trove;
@@ -24,8 +25,9 @@ struct Content {
     name: [u8; 20],
 }
 
-/// The places of the troves of each name, rising, and the contents that the troves record.
+/// The places of the troves of each id and, rising, of each name, and the contents that the troves record.
 pub(crate) struct Index {
+    ids: PlacesById,
     // A name may stand here without a place.
     names: IndexMap<String, Vec<usize>>,
     // Each name of a content, with the size with which it was recorded first.
@@ -38,6 +40,7 @@ pub(crate) struct Index {
 impl Drop for Index {
     fn drop(self) {
         let Index {
+            ids: _ids,
             names: _names,
             contents: _contents,
             others: _others,
@@ -51,6 +54,7 @@ impl Index {
         ensures { IsIndexOf [] result }
     {
         Index {
+            ids: PlacesById::new(alloc),
             names: IndexMap::new(alloc),
             contents: IndexMap::new(alloc),
             others: IndexSet::new(alloc),
@@ -83,12 +87,21 @@ impl Index {
         ensures ok { OnOk result ((troves : List TroveParts) → IsIndexOf troves self.old → place ≡ length troves
             → IsIndexOf (troves ++ trove.now ∷ []) self.new) }
         ensures places { OnErr result ((name : List ℕ) → places_in self.new.names name ≡ places_in self.old.names name) }
+        ensures ids { KeepsAll self.old.ids self.new.ids }
         ensures contents { ExtendsMap self.old.contents self.new.contents }
         ensures others { Extends self.old.others self.new.others }
     {
+        self.ids.add(hash_of(trove.id()), place)?;
         add_contents(&mut self.contents, &mut self.others, trove.files())?;
         add_place(alloc, &mut self.names, trove.id().name.text(), place)?;
         Ok(())
+    }
+
+    /// The places by the hashes of the ids.
+    pub(crate) fn ids(&self) -> &PlacesById
+        ensures { result.now ≡ self.now.ids }
+    {
+        &self.ids
     }
 
     /// The places of the troves of a name, rising.
@@ -143,7 +156,7 @@ fn first_size(contents: &IndexMap<[u8; 20], usize>, name: &[u8; 20]) -> Option<u
 
 // Whether a size that there may be is this one.
 fn is_size(first: Option<usize>, size: usize) -> bool
-    ensures { result ≡ spec.is_size first size }
+    ensures { result ≡ is_number first size }
 {
     match first {
         Some(first) => first == size,

@@ -1,14 +1,16 @@
 //! Searches among the troves at some places.
-ghost use Rattle.std.specs.Prelude.{◌≡◌, ◌↔◌, ℕ, Some, None, filter, slice_get, IsTrue, IfSome};
-ghost use Rattle.std.specs.List.{find, last_or};
+ghost use Rattle.std.specs.Prelude.{◌≡◌, ◌↔◌, ℕ, Some, None, filter, slice_get, Contains, IsTrue, IfSome};
+ghost use Rattle.std.specs.List.{last_or};
 ghost use Rattle.std.specs.Option.{option_copied};
 ghost use Rattle.repo_index.specs.Catalogue as spec;
-ghost use Rattle.repo_index.specs.Catalogue.{has_id, places_of, HasDistinctIds};
-ghost use Rattle.repo_index.specs.Places.{IsPlaceOf, troves_at};
+ghost use Rattle.repo_index.specs.Catalogue.{HasDistinctIds};
+ghost use Rattle.repo_index.specs.Index.{AreKept};
+ghost use Rattle.repo_index.specs.Places.{troves_at, HasIdAt};
 
+use crate::places_by_id::{PlacesById, hash_of};
 use cny_version::{Count, Version};
 use trove_stream::Trove;
-use trove_stream::trove_parts::{TroveId, distinct_ids};
+use trove_stream::trove_parts::TroveId;
 
 /// The trove at a place, if there is one.
 pub(crate) fn trove_at(troves: &[Trove], place: usize) -> Option<&Trove>
@@ -17,46 +19,21 @@ pub(crate) fn trove_at(troves: &[Trove], place: usize) -> Option<&Trove>
     troves.get(place)
 }
 
-/// The first of the troves at these places that has this id.
-pub(crate) fn find_among<'a>(
-    troves: &'a [Trove],
-    places: &[usize],
-    id: &TroveId,
-) -> Option<&'a Trove>
-    ensures { option_copied result ≡ find (has_id id.now) (troves_at troves.now places.now) }
-{
-    for place in places {
-        if let Some(trove) = trove_at(troves, *place) {
-            if *trove.id() == *id {
-                return Some(trove);
-            }
-        }
-    }
-    None
-}
-
 // Whether the trove of this id stands at this place.
 fn is_place_of(troves: &[Trove], place: usize, id: &TroveId) -> bool
-    ensures { IsTrue result ↔ IsPlaceOf troves.now id.now place }
+    ensures { IsTrue result ↔ HasIdAt troves.now id.now place }
 {
-    // Ids that are equal by their texts are one id.
-    distinct_ids();
-    id.is_valid();
     match trove_at(troves, place) {
         None => false,
-        Some(trove) => {
-            trove.id().is_valid();
-            *trove.id() == *id
-        }
+        Some(trove) => *trove.id() == *id,
     }
 }
 
-/// The place of the trove of this id, if it is one of these, which are those of the troves of its name.
-pub(crate) fn place_among(troves: &[Trove], places: &[usize], id: &TroveId) -> Option<usize>
-    requires distinct { HasDistinctIds troves.now }
-    requires of_name { places.now ≡ places_of id.now.name troves.now }
-    ensures place { IfSome result (IsPlaceOf troves.now id.now) }
-    ensures only { (place : ℕ) → IsPlaceOf troves.now id.now place → result ≡ Some place }
+// The place of the trove of this id, if it is one of these.
+fn place_among(troves: &[Trove], places: &[usize], id: &TroveId) -> Option<usize>
+    requires { HasDistinctIds troves.now }
+    ensures place { IfSome result (HasIdAt troves.now id.now) }
+    ensures only { (place : ℕ) → Contains places.now place → HasIdAt troves.now id.now place → result ≡ Some place }
 {
     for place in places {
         if is_place_of(troves, *place, id) {
@@ -64,6 +41,21 @@ pub(crate) fn place_among(troves: &[Trove], places: &[usize], id: &TroveId) -> O
         }
     }
     None
+}
+
+/// The place of the trove of this id, if there is one, where the place of each trove is kept under its hash.
+pub(crate) fn place_by_id(troves: &[Trove], places: &PlacesById, id: &TroveId) -> Option<usize>
+    requires distinct { HasDistinctIds troves.now }
+    requires kept { AreKept troves.now places.now }
+    ensures place { IfSome result (HasIdAt troves.now id.now) }
+    ensures only { (place : ℕ) → HasIdAt troves.now id.now place → result ≡ Some place }
+{
+    if let Some(place) = places.first(hash_of(id)) {
+        if is_place_of(troves, place, id) {
+            return Some(place);
+        }
+    }
+    place_among(troves, places.others(), id)
 }
 
 // Whether the source count is the given one, where one is given.

@@ -1,15 +1,12 @@
-use Rattle.std.proofs.Common.{List, find, ap, ◌∙◌}
-use Rattle.trove_stream.specs.declared.parts.TroveParts.{TroveParts}
-use Rattle.repo_index.specs.Catalogue.{has_id}
-use Rattle.repo_index.specs.Places.{troves_at}
-use Rattle.repo_index.proofs.Searching.{find-filter, has_id-name}
-use Rattle.trove_stream.specs.Installed.{has_name}
+use Rattle.std.proofs.Common.{sym, ◌∙◌}
+use Rattle.std.proofs.lemmas.Option.{none-some}
+use Rattle.repo_index.proofs.Placing.{found_at_place, found_at_none}
 use Rattle.repo_index.proofs.catalogue.Catalogue.find.Goals as goal
 
-pub returns : goal.returns
-returns c =
-    let id = c.args.id.now in
-    c.find_among.ensures
-    ∙ ap (λ (troves : List TroveParts). find (has_id id) (troves_at troves c.by_name.result.now)) c.troves.ensures.value
-    ∙ ap (find (has_id id)) c.by_name.ensures.troves
-    ∙ find-filter (has_id id) (has_name id.name) (has_id-name id) c.args.self.now.troves
+pub returns-in-Some : goal.returns-in-Some
+returns-in-Some c =
+    c.trove_at.ensures ∙ sym (found_at_place c.args.self.now.troves c.args.id.now _ c.place_by_id.ensures.distinct c.in-Some.ensures.place)
+
+pub returns-in-None : goal.returns-in-None
+returns-in-None c =
+    sym (found_at_none c.args.self.now.troves c.args.id.now (λ place at. none-some place (c.in-None.ensures.only place at)))

@@ -1,15 +1,15 @@
-use Rattle.std.proofs.Common.{◌∙◌, sym, ap, subst, List}
-use Rattle.trove_stream.specs.declared.parts.TroveParts.{TroveParts}
-use Rattle.repo_index.specs.Catalogue.{places_of, HasDistinctIds}
-use Rattle.repo_index.specs.Places.{IsPlaceOf}
+use Rattle.std.proofs.Common.{subst}
+use Rattle.trove_stream.specs.trove-parts.Id.{IsTroveId}
+use Rattle.repo_index.proofs.Placing.{id_at, texts_at}
 use Rattle.repo_index.proofs.catalogue.Catalogue.place_of.Goals as goal
 
-pub place_among-requires-clause-distinct : goal.place_among-requires-clause-distinct
-place_among-requires-clause-distinct c = subst HasDistinctIds (sym c.troves.ensures.value) c.troves.ensures.distinct
+pub returns-clause-place : goal.returns-clause-place
+returns-clause-place c =
+    id_at c.distinct_ids.ensures.equal c.args.self.now.troves c.args.id.now c.in-Some.place c.in-Some-trove_at.trove.now c.in-Some.ensures.place c.in-Some-trove_at.ensures
+    (subst IsTroveId c.id.ensures.value c.is_valid-2.ensures) c.is_valid.ensures
 
-pub place_among-requires-clause-of_name : goal.place_among-requires-clause-of_name
-place_among-requires-clause-of_name c = c.by_name.ensures.places ∙ ap (places_of c.args.id.now.name) (sym c.troves.ensures.value)
+pub returns-in_default-clause-only : goal.returns-in_default-clause-only
+returns-in_default-clause-only c place is = c.in_default.ensures.only place (texts_at c.args.self.now.troves c.args.id.now place is)
 
 pub returns-clause-only : goal.returns-clause-only
-returns-clause-only c place is =
-    c.place_among.ensures.only place (subst (λ (l : List TroveParts). IsPlaceOf l c.args.id.now place) (sym c.troves.ensures.value) is)
+returns-clause-only c place is = c.in-Some.ensures.only place (texts_at c.args.self.now.troves c.args.id.now place is)

@@ -5,6 +5,14 @@ use Rattle.repo_index.specs.Index.{IsIndexOf}
 use Rattle.repo_index.proofs.Placing.{distinct_push}
 use Rattle.repo_index.proofs.catalogue.Catalogue.push.Goals as goal
 
+pub invariant_of-self-in_err-add : goal.invariant_of-self-in_err-add
+invariant_of-self-in_err-add c =
+    let troves = c.self.inside.troves.items in
+    let kept : c.reserve.new.self.items ≡ troves = c.in_ok-reserve.ensures.items in record {
+      distinct = subst HasDistinctIds (sym kept) c.self.invariant.distinct;
+      index_is = subst (λ (l : List TroveParts). IsIndexOf l c.add.new.self) (sym kept) (c.in_err-add.ensures.err troves c.self.invariant.index_is);
+    }
+
 pub invariant_of-self-2 : goal.invariant_of-self-2
 invariant_of-self-2 c =
     let troves = c.self.inside.troves.items in
