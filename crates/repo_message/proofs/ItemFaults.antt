@@ -1,5 +1,5 @@
 -- Faults of items: one place at most, and none where a good item stands.
-use Rattle.std.proofs.Common.{◌≡◌, ◌⊎◌, inl, inr, ⊎_elim, ℕ, IsTrue, List, ◌++◌, drop, refl, sym, ap, ◌∙◌, subst}
+use Rattle.std.proofs.Common.{◌≡◌, inl, inr, ⊎_elim, ℕ, IsTrue, List, ◌++◌, drop, sym, ◌∙◌, subst}
 use Rattle.cny_stream.specs.Item.{FitsItem, item_bytes, is_expected}
 use Rattle.cny_stream.proofs.ItemLaws.{same_item}
 use Rattle.change_set.specs.cny-base.declared.refusal.Fault.{Fault}

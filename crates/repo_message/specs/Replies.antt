@@ -5,7 +5,7 @@ use Rattle.change_set.specs.cny-base.Below.{begins_with}
 use Rattle.change_set.specs.declared.change.ChangeSet.{ChangeSet}
 use Rattle.change_set.specs.declared.change.Part.{Part}
 use Rattle.change_set.specs.declared.change.Part.TheVariants.{Whole, Relative}
-use Rattle.change_set.specs.ChangeSet.{change_bytes, IsSetStream}
+use Rattle.change_set.specs.ChangeSet.{IsSetStream}
 use Rattle.repo_message.specs.Faults.{IsItemFault, LacksMagic}
 
 -- `CNYRP01` and a line feed

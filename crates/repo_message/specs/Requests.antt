@@ -1,5 +1,5 @@
 -- Requests to a repository, and their one stream.
-use Rattle.std.specs.Prelude.{◌≡◌, ◌⊎◌, ℕ, ◌≤◌, Bool, true, false, nat_lt, if◌then◌else◌, IsTrue, List, [], ◌∷◌, ◌++◌, length, flat_map, All}
+use Rattle.std.specs.Prelude.{◌≡◌, ◌⊎◌, ℕ, ◌≤◌, nat_lt, if◌then◌else◌, IsTrue, List, [], ◌∷◌, ◌++◌, length, flat_map, All}
 use Rattle.cny_stream.specs.Item.{FitsItem, item_bytes}
 use Rattle.change_set.specs.cny-base.Name.{is_name}
 use Rattle.change_set.specs.trove-parts.declared.id.TroveId.{TroveId}

@@ -8,5 +8,7 @@ mod taking;
 
 pub use change_set;
 pub use laws::one_reply;
-pub use request::{REQUESTS_LIMIT, Request, request_of};
+pub use request::{
+    CONTENT, MISSING, NAMED, REQUEST_END, REQUEST_MAGIC, REQUESTS_LIMIT, Request, request_of,
+};
 pub use taking::take;

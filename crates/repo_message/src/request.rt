@@ -12,6 +12,12 @@ use std::alloc::Global;
 /// The most requests of a stream.
 pub const REQUESTS_LIMIT: usize = 65_536;
 
+/// `CNYRQ01` and a line feed, with which a stream of requests begins.
+pub const REQUEST_MAGIC: &[u8] = b"CNYRQ01\n";
+
+/// The tag of the item at the end of a stream of requests.
+pub const REQUEST_END: u8 = 0x7f;
+
 /// The tag of a request for the ids of a name.
 pub const NAMED: u8 = 0x70;
 
