@@ -1,0 +1,5 @@
+pub mod Stops
+pub mod Patterns
+pub mod Walk
+pub mod Plan
+pub use Rattle.tree_disk.specs as tree-disk

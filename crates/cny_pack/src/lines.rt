@@ -1,0 +1,103 @@
+//! The lines of entries.
+ghost use Rattle.std.specs.Prelude.{◌≡◌, ◌++◌, true, OnOk};
+ghost use Rattle.cny_manifest.specs.Spelling as spec;
+
+use crate::stop::{Halt, Unfit};
+use cny_flow::Sink;
+use manifest_troves::file_stream::{Flags, Owner};
+use std::alloc::Global;
+use tree_disk::cny_base::{Bytes, Mode, OutOfMemory, Path, Target, decimal, octal};
+
+// As many bytes as no line has.
+const LINE_ROOM: usize = 2049;
+
+/// Whether the bytes can be a line: they are few enough, and none of them is a line feed.
+pub(crate) fn is_line(text: &[u8]) -> bool {
+    text.len() < LINE_ROOM && !text.contains(&b'\n')
+}
+
+// Appends a user, a group and the space behind them.
+fn push_owner(line: &mut Bytes, owner: &Owner) -> Result<(), OutOfMemory>
+    ensures { OnOk result (line.new ≡ line.old ++ spec.owner_words true owner.now) }
+{
+    line.push_slice(owner.user().as_bytes())?;
+    line.push_slice(b":")?;
+    line.push_slice(owner.group().as_bytes())?;
+    line.push_slice(b" ")
+}
+
+// Appends a mode and the space behind it.
+fn push_mode(line: &mut Bytes, mode: Mode) -> Result<(), OutOfMemory> {
+    line.push_slice(&octal(mode))?;
+    line.push_slice(b" ")
+}
+
+// Appends the word of a flag that is set, with the space behind it.
+fn push_if(line: &mut Bytes, word: &[u8], is_set: bool) -> Result<(), OutOfMemory>
+    ensures { OnOk result (line.new ≡ line.old ++ spec.word_if is_set word.now) }
+{
+    if is_set {
+        line.push_slice(word)?;
+    }
+    Ok(())
+}
+
+/// The line of a directory.
+pub(crate) fn dir_line(
+    alloc: Global,
+    path: &Path,
+    mode: Mode,
+    owner: &Owner,
+) -> Result<Bytes, OutOfMemory> {
+    let mut line = Bytes::new(alloc, b"dir ")?;
+    push_mode(&mut line, mode)?;
+    push_owner(&mut line, owner)?;
+    line.push_slice(path.text().as_bytes())?;
+    Ok(line)
+}
+
+/// The line of a file of this size.
+pub(crate) fn file_line(
+    alloc: Global,
+    path: &Path,
+    mode: Mode,
+    owner: &Owner,
+    flags: Flags,
+    size: u32,
+) -> Result<Bytes, OutOfMemory> {
+    let mut line = Bytes::new(alloc, b"file ")?;
+    push_mode(&mut line, mode)?;
+    line.push_slice(decimal(alloc, u64::from(size))?.get().as_bytes())?;
+    line.push_slice(b" ")?;
+    push_owner(&mut line, owner)?;
+    push_if(&mut line, b"config ", flags.config)?;
+    push_if(&mut line, b"initial ", flags.initial)?;
+    push_if(&mut line, b"transient ", flags.transient)?;
+    line.push_slice(path.text().as_bytes())?;
+    Ok(line)
+}
+
+/// The line with the path of a link.
+pub(crate) fn link_line(alloc: Global, path: &Path) -> Result<Bytes, OutOfMemory> {
+    let mut line = Bytes::new(alloc, b"link ")?;
+    line.push_slice(path.text().as_bytes())?;
+    Ok(line)
+}
+
+/// The line with the target of a link.
+pub(crate) fn target_line(alloc: Global, target: &Target) -> Result<Bytes, OutOfMemory> {
+    let mut line = Bytes::new(alloc, b"target ")?;
+    line.push_slice(target.text().as_bytes())?;
+    Ok(line)
+}
+
+/// Writes a line and the line feed behind it.
+pub(crate) fn give_line<S: Sink>(out: &mut S, line: Bytes) -> Result<(), Halt> {
+    if !is_line(line.get()) {
+        return Err(Halt::Unfit(Unfit::LongLine));
+    }
+    let mut line = line;
+    line.push_slice(b"\n")?;
+    out.give(line.get())?;
+    Ok(())
+}

@@ -1,0 +1,10 @@
+//! Who owns what stands in a directory.
+use manifest_troves::file_stream::Owner;
+use std::alloc::Global;
+use tree_disk::cny_base::{OutOfMemory, Path};
+
+/// Who owns what stands in a directory. A disk doesn't tell it.
+pub trait Owners {
+    /// The owner of the directory or the file at the path; none where nobody tells it.
+    fn owner_at(&mut self, alloc: Global, path: &Path) -> Result<Option<Owner>, OutOfMemory>;
+}
