@@ -1,5 +1,5 @@
 -- Runs that only read a disk, one behind the other.
-use Rattle.std.proofs.Common.{◌≡◌, Result, Ok, Err, IsTrue, refl}
+use Rattle.std.proofs.Common.{◌≡◌, Result, Ok, Err, refl}
 use Rattle.std.specs.Prelude.{IsErrAnd, OnOk}
 use Rattle.tree_disk.specs.cny-base.declared.refusal.Refusal.{Refusal}
 use Rattle.tree_disk.specs.cny-base.declared.stop.Stop.{Stop}

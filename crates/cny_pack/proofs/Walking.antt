@@ -5,7 +5,6 @@ use Rattle.std.specs.FinMap.{get, keys, contains_key-keys}
 use Rattle.std.proofs.lemmas.Bool.{cases_Bool}
 use Rattle.std.proofs.lemmas.List.Elements.{All-head, All-tail}
 use Rattle.tree_disk.specs.cny-base.Path.{is_path, join, last_name, parent, root}
-use Rattle.tree_disk.proofs.cny-base.Bools.{or_left, or_right}
 use Rattle.tree_disk.proofs.cny-base.Below.{parent_shorter}
 use Rattle.tree_disk.proofs.cny-base.Joins.{join_parent}
 use Rattle.tree_disk.specs.declared.disk.Look.{Look}

@@ -1,5 +1,5 @@
 -- What can be in a manifest.
-use Rattle.std.specs.Prelude.{ℕ, Bool, nat_lt, if◌then◌else◌, List, Option, Some, None}
+use Rattle.std.specs.Prelude.{ℕ, nat_lt, if◌then◌else◌, List, Option, Some, None}
 use Rattle.tree_disk.specs.cny-base.Reserved.{is_forbidden}
 use Rattle.tree_disk.specs.cny-base.declared.limits.TheConstants.{CONTENT_LIMIT}
 use Rattle.tree_disk.specs.Looks.{sees_dir, size_seen}

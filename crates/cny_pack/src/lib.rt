@@ -1,6 +1,6 @@
-//! A directory's tree as a manifest: what stands in it, in the order of paths, is written to a sink, in pieces and with no file whole in
-//! memory. What is written is a spelling of a manifest whose entries are the nodes of the tree, over every disk and also where a file
-//! changes meanwhile, which is told by its path.
+//! A directory's tree as a manifest, written to a sink in pieces, with no file whole in memory. The walk over the tree finds each path at
+//! which something stands and nothing else, the lines of entries are those of a manifest's spelling, and of a file just as many bytes
+//! are written as its line says, or an error is answered.
 #![tactic(auto)]
 
 mod content;
@@ -24,3 +24,4 @@ pub use plan::Rules;
 pub use stop::{BadWord, PackStop, Unfit};
 pub use tree_disk;
 pub use tree_disk::cny_base;
+pub use walk::{Seen, find_all};

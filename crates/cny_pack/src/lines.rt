@@ -1,6 +1,7 @@
 //! The lines of entries.
-ghost use Rattle.std.specs.Prelude.{◌≡◌, ◌++◌, true, OnOk};
+ghost use Rattle.std.specs.Prelude.{◌≡◌, ◌++◌, ◌∷◌, [], true, IfOk, OnOk};
 ghost use Rattle.cny_manifest.specs.Spelling as spec;
+ghost use Rattle.tree_disk.specs.cny-base.Number.{octal_text};
 
 use crate::stop::{Halt, Unfit};
 use cny_flow::Sink;
@@ -27,7 +28,9 @@ fn push_owner(line: &mut Bytes, owner: &Owner) -> Result<(), OutOfMemory>
 }
 
 // Appends a mode and the space behind it.
-fn push_mode(line: &mut Bytes, mode: Mode) -> Result<(), OutOfMemory> {
+fn push_mode(line: &mut Bytes, mode: Mode) -> Result<(), OutOfMemory>
+    ensures { OnOk result (line.new ≡ line.old ++ (octal_text mode ++ 32 ∷ [])) }
+{
     line.push_slice(&octal(mode))?;
     line.push_slice(b" ")
 }
@@ -48,7 +51,9 @@ pub(crate) fn dir_line(
     path: &Path,
     mode: Mode,
     owner: &Owner,
-) -> Result<Bytes, OutOfMemory> {
+) -> Result<Bytes, OutOfMemory>
+    ensures { IfOk result (λ line. line ≡ spec.dir_line true path.now mode owner.now) }
+{
     let mut line = Bytes::new(alloc, b"dir ")?;
     push_mode(&mut line, mode)?;
     push_owner(&mut line, owner)?;
@@ -64,7 +69,9 @@ pub(crate) fn file_line(
     owner: &Owner,
     flags: Flags,
     size: u32,
-) -> Result<Bytes, OutOfMemory> {
+) -> Result<Bytes, OutOfMemory>
+    ensures { IfOk result (λ line. line ≡ spec.file_line true path.now mode owner.now flags size) }
+{
     let mut line = Bytes::new(alloc, b"file ")?;
     push_mode(&mut line, mode)?;
     line.push_slice(decimal(alloc, u64::from(size))?.get().as_bytes())?;
@@ -78,14 +85,18 @@ pub(crate) fn file_line(
 }
 
 /// The line with the path of a link.
-pub(crate) fn link_line(alloc: Global, path: &Path) -> Result<Bytes, OutOfMemory> {
+pub(crate) fn link_line(alloc: Global, path: &Path) -> Result<Bytes, OutOfMemory>
+    ensures { IfOk result (λ line. line ≡ spec.link_line path.now) }
+{
     let mut line = Bytes::new(alloc, b"link ")?;
     line.push_slice(path.text().as_bytes())?;
     Ok(line)
 }
 
 /// The line with the target of a link.
-pub(crate) fn target_line(alloc: Global, target: &Target) -> Result<Bytes, OutOfMemory> {
+pub(crate) fn target_line(alloc: Global, target: &Target) -> Result<Bytes, OutOfMemory>
+    ensures { IfOk result (λ line. line ≡ spec.target_line target.now) }
+{
     let mut line = Bytes::new(alloc, b"target ")?;
     line.push_slice(target.text().as_bytes())?;
     Ok(line)

@@ -13,10 +13,12 @@ use tree_disk::cny_base::{Copies, Path, Stop, Text, TextFault};
 use tree_disk::{Look, TreeDisk, steps};
 
 /// What was seen at each path.
-pub(crate) type Seen = BTreeMap<Path, Look>;
+pub type Seen = BTreeMap<Path, Look>;
 
-/// What stands at each path of the disk but `/`.
-pub(crate) fn find_all<D: TreeDisk>(alloc: Global, disk: &mut D) -> Result<Seen, Stop>
+/// What stands at each path of the disk but `/`, all of it and nothing else, where the disk tells its tree.
+///
+/// `Failed` comes only where the count of faults of the disk rose, and of the other stops want of memory alone.
+pub fn find_all<D: TreeDisk>(alloc: Global, disk: &mut D) -> Result<Seen, Stop>
     ensures looks { OnlyLooks D.disk disk.old disk.new result }
     ensures found { IsTrue D.disk.tells → IfOk result (FindsAll (D.disk.reads disk.old)) }
     ensures stops { IfErr result IsDiskStop }

@@ -1,5 +1,12 @@
-use Rattle.std.proofs.Common.{◌-◌}
+use Rattle.std.proofs.Common.{◌-◌, ◌≤◌}
+use Rattle.cny_pack.specs.Gives.{Gains}
 use Rattle.cny_pack.proofs.content.give_content.Given as goal
 
 abbrev pub decreases-pieces : goal.decreases-pieces
 decreases-pieces g l = l.size - l.at
+
+abbrev pub invariant-pieces : goal.invariant-pieces
+invariant-pieces g l = record {
+  given : Gains (g.S.Sink.sink.written l.fn.out) (g.S.Sink.sink.written l.out) l.at;
+  within : l.at ≤ l.size;
+}

@@ -1,8 +1,7 @@
-use Rattle.std.proofs.Common.{◌≡◌, ℕ, List, [], Result, Ok, Err, length, take, ap, sym, ◌∙◌, subst}
-use Rattle.std.specs.Prelude.{All, OnOk}
+use Rattle.std.proofs.Common.{ℕ, List, [], take, sym, ◌∙◌, subst}
+use Rattle.std.specs.Prelude.{All}
 use Rattle.std.proofs.lemmas.List.{get_or_default, take_all}
 use Rattle.std.proofs.lemmas.List.Elements.{All-more, All-weaker}
-use Rattle.tree_disk.specs.Looks.{sees_nothing, sees_dir}
 use Rattle.tree_disk.specs.Tree.{Name, Tree}
 use Rattle.tree_disk.proofs.StepLaws.{tests_value}
 use Rattle.cny_pack.specs.Walk.{SawName, Went, WentInto, WentThrough}

@@ -1,7 +1,6 @@
 use Rattle.std.proofs.Common.{◌+◌, ◌-◌, ◌*◌, length, take, IsTrue, Ok}
 use Rattle.std.specs.Prelude.{All}
 use Rattle.cny_pack.specs.Walk.{OnlyLooks, Went, SawName}
-use Rattle.tree_disk.specs.cny-base.declared.stop.Stop.{Stop}
 use Rattle.cny_pack.proofs.walk.+walk.Given as goal
 
 abbrev pub decreases-visit : goal.decreases-visit

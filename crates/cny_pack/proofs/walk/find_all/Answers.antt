@@ -3,7 +3,7 @@ use Rattle.std.specs.BTreeMap.{is_at}
 use Rattle.std.specs.Cmp.Lexicographic.{slice_cmp}
 use Rattle.std.specs.Map.{lookup}
 use Rattle.std.specs.Ordering.{nat_cmp}
-use Rattle.tree_disk.specs.Tree.{Name, Tree}
+use Rattle.tree_disk.specs.Tree.{Name}
 use Rattle.tree_disk.specs.declared.disk.Look.{Look}
 use Rattle.cny_pack.specs.Walk.{WentInto}
 use Rattle.cny_pack.proofs.Walking.{finds_all}
