@@ -1,5 +1,5 @@
 -- A line says one thing at most.
-use Rattle.std.proofs.Common.{◌≡◌, ℕ, true, false, List, [], ◌∷◌, length, drop, Ok, Err, sym, ◌∙◌, subst, true≢false, arith}
+use Rattle.std.proofs.Common.{◌≡◌, ℕ, true, List, [], ◌∷◌, length, drop, Ok, Err, sym, ◌∙◌, subst, true≢false, arith}
 use Rattle.std.specs.Prelude.{◌==◌, codes, IfOk, IsErrAnd, IsErrOf, Result}
 use Rattle.std.proofs.lemmas.Bool.{and_parts}
 use Rattle.repo_index.specs.cny-base.Below.{begins_with}

@@ -1,3 +1,5 @@
 pub mod Directives
 pub mod LinesRead
 pub mod MadeLists
+pub mod ModelPath
+pub mod ModelSizes
