@@ -18,7 +18,7 @@ use Rattle.system_core.proofs.Held.{OneDatabase}
 
 module _ {T P : Type 0} {root_disk : DiskModel T} {repo_disk : DiskModel P} (law : OneDatabase) (old : Disks T P) (ready : AreReady root_disk repo_disk old) (told : IsTrue root_disk.tells) (s : State) (stands : StandsFor root_disk repo_disk old s) where
   -- the list at hand is that of the system
-  same_installed : old.opened.db.installed ≡ s.root.installed
+  pub same_installed : old.opened.db.installed ≡ s.root.installed
   same_installed = let held = held_database law (root_disk.reads old.root) old.opened.db s.root (ready.root told).holds stands.root.stored in held.list
 
   module _ (options : Options) (set : ChangeSet) where

@@ -25,7 +25,7 @@ use Rattle.local_db.specs.Stores.{StoresIn}
 use Rattle.system_core.specs.Opening.{IsSettledRoot}
 use Rattle.system_core.specs.declared.done.Done.{Done}
 use Rattle.system_core.specs.Job.{Sources, sources_of}
-use Rattle.system_core.specs.Lists.{ListStep, to_updated}
+use Rattle.system_core.specs.Lists.{ListStep}
 use Rattle.system_core.specs.Steps as steps
 use Rattle.system_core.specs.Steps.{StepEnds}
 use Rattle.cny_report.specs.Jobs.{changes_text}
@@ -42,7 +42,7 @@ use Rattle.cli_call.specs.cny-laws.Store.{HasDamagedFile, IsSettled, IsStore}
 use Rattle.cli_call.specs.cny-laws.Stores.{repository_store, root_store}
 use Rattle.cli_call.proofs.StoreLaws.{read_settled}
 use Rattle.cli_call.proofs.RootResults.{root_ok, same_failure}
-use Rattle.root_commands.specs.Update.{answers_of, update_to, UpdatesTo}
+use Rattle.root_commands.specs.Update.{answers_of, job_from, JobFrom}
 use Rattle.root_commands.proofs.Answering.{stored_two}
 use Rattle.root_commands.proofs.SpecifiedEnds.{ReadsAtRefusal}
 use Rattle.root_commands.proofs.JobStates as states
@@ -57,10 +57,10 @@ pub record RepositoryLaws : Type 0 where
   pub contents : (x : Tree) (r : RepositoryState) (name : List ℕ) (path : Name) → StoresRepository x r → IsDamagedContent (troves_of r.commits) name x path → ⊥
   pub store : IsStore repository_store
 
--- a job of these troves ran: by each system that the root stores, and on each root
-pub record RanFar {T P : Type 0} (root_disk : DiskModel T) (repo_disk : DiskModel P) (options : Options) (carried : List Carried) (troves : List TroveParts) (root root' : T) (far far' : RepoContents P) (now : Db) (r : Result Done Stop) : Type 0 where
+-- a job ran of the list that follows so: by each system that the root stores, and on each root
+pub record RanFar {T P : Type 0} (root_disk : DiskModel T) (repo_disk : DiskModel P) (options : Options) (carried : List Carried) (step : List TroveParts → ListStep) (root root' : T) (far far' : RepoContents P) (now : Db) (r : Result Done Stop) : Type 0 where
   pub ends : IsTrue root_disk.tells → (s : RootState) → StoresIn Two (root_disk.reads root) s
-      → StepEnds root_disk (sources_of carried (let contents = repo_contents repo_disk in contents.answers far) options) (to_updated s.installed troves) s root root' now r
+      → StepEnds root_disk (sources_of carried (let contents = repo_contents repo_disk in contents.answers far) options) (step s.installed) s root root' now r
   pub rests : IsTrue root_disk.tells → OnOk r (IsSettledRoot root_disk root')
   pub refused : IsTrue root_disk.tells → IfErr r (ReadsAtRefusal root_disk root root')
   pub causes : IfErr r (steps.HasStepCause (repo_contents repo_disk) far far' (Rose (root_disk.faults root) (root_disk.faults root')))
@@ -68,9 +68,9 @@ pub record RanFar {T P : Type 0} (root_disk : DiskModel T) (repo_disk : DiskMode
   pub searched : HasSearched repo_disk far far'
 
 module _ {T P : Type 0} {root_disk : DiskModel T} {repo_disk : DiskModel P} (root_disk_laws : IsDisk root_disk) (repo_disk_laws : IsDisk repo_disk) (law : OneDatabase) (laws : RepositoryLaws) (root root' : T) (far far' : RepoContents P) (opened opened' : Opened)
-    (known : far.catalogue.now ≡ opened.catalogue) (ready : AreReady root_disk repo_disk (disks root far.disk.now opened)) (options : Options) (carried : List Carried) (troves : List TroveParts) (input : List ℕ) where
+    (known : far.catalogue.now ≡ opened.catalogue) (ready : AreReady root_disk repo_disk (disks root far.disk.now opened)) (options : Options) (carried : List Carried) (step : List TroveParts → ListStep) (input : List ℕ) where
   abbrev pub Runs : Result Done Stop → Type 0
-  Runs r = RanFar root_disk repo_disk options carried troves root root' far far' opened'.db r
+  Runs r = RanFar root_disk repo_disk options carried step root root' far far' opened'.db r
 
   abbrev pub repo : P
   repo = far.disk.now
@@ -79,7 +79,7 @@ module _ {T P : Type 0} {root_disk : DiskModel T} {repo_disk : DiskModel P} (roo
   repo' = far'.disk.now
 
   abbrev pub Performed : Result (List ℕ) Failure → Type 0
-  Performed f = Performs root_disk repo_disk (update_to options carried troves) input (disks root repo opened) (disks root' repo' opened') f
+  Performed f = Performs root_disk repo_disk (job_from options carried step) input (disks root repo opened) (disks root' repo' opened') f
 
   -- what is searched is the repository's
   pub holds : IsTrue repo_disk.tells → HoldsCatalogue (repo_disk.reads repo) far.catalogue.now
@@ -95,8 +95,8 @@ module _ {T P : Type 0} {root_disk : DiskModel T} {repo_disk : DiskModel P} (roo
     answered name found is = laws.content (repo_disk.reads repo) s.repository name found stands.repo.stored
         (subst (λ (t : List TroveParts). FindsContent t name (repo_disk.reads repo) found) same_troves (is.stands told))
 
-    ends : (r : Result Done Stop) → Runs r → StepEnds root_disk (sources_of carried (answers_of s.repository.contents) options) (to_updated s.root.installed troves) s.root root root' opened'.db r
-    ends r ran = ends_more carried options (let contents = repo_contents repo_disk in contents.answers far) (answers_of s.repository.contents) answered s.root root_disk (to_updated s.root.installed troves) root root' opened'.db r (ran.ends root_told s.root (stored_two law (disks root repo opened) ready root_told stands.root))
+    ends : (r : Result Done Stop) → Runs r → StepEnds root_disk (sources_of carried (answers_of s.repository.contents) options) (step s.root.installed) s.root root root' opened'.db r
+    ends r ran = ends_more carried options (let contents = repo_contents repo_disk in contents.answers far) (answers_of s.repository.contents) answered s.root root_disk (step s.root.installed) root root' opened'.db r (ran.ends root_told s.root (stored_two law (disks root repo opened) ready root_told stands.root))
 
     whole : (e : Stop) → Runs (Err e) → IsUndamaged e
     whole (stop.FarDamaged path) ran =
@@ -106,22 +106,22 @@ module _ {T P : Type 0} {root_disk : DiskModel T} {repo_disk : DiskModel P} (roo
     whole _ ran = tt
 
     abbrev Changes : Result (List ℕ) Failure → Type 0
-    Changes f = ChangesRoot root_disk (UpdatesTo options carried troves s) s root root' f
+    Changes f = ChangesRoot root_disk (JobFrom options carried step s) s root root' f
 
     abbrev from : Sources
     from = sources_of carried (answers_of s.repository.contents) options
 
-    abbrev step : ListStep
-    step = to_updated s.root.installed troves
+    abbrev follows : ListStep
+    follows = step s.root.installed
 
     stopped : (e : Stop) → Runs (Err e) → Changes (Err (root_failure e))
-    stopped e ran = states.stopped root_disk_laws root root' opened'.db from step s stands.root e (ends (Err e) ran) (whole e ran)
+    stopped e ran = states.stopped root_disk_laws root root' opened'.db from follows s stands.root e (ends (Err e) ran) (whole e ran)
 
     told_text : (made : Done) (text : List ℕ) → text ≡ changes_text made.changes → Runs (Ok made) → Changes (Ok text)
-    told_text made text is ran = states.told_text root_disk_laws root root' opened'.db from step s stands.root made text is (ends (Ok made) ran)
+    told_text made text is ran = states.told_text root_disk_laws root root' opened'.db from follows s stands.root made text is (ends (Ok made) ran)
 
     untold_text : (made : Done) → Runs (Ok made) → Changes (Err failure.Memory)
-    untold_text made ran = states.untold_text root_disk_laws root root' opened'.db from step s stands.root made (ends (Ok made) ran)
+    untold_text made ran = states.untold_text root_disk_laws root root' opened'.db from follows s stands.root made (ends (Ok made) ran)
 
   -- ---- on each pair of disks
 
@@ -167,7 +167,7 @@ module _ {T P : Type 0} {root_disk : DiskModel T} {repo_disk : DiskModel P} (roo
   pub performed_by : (f : Result (List ℕ) Failure) → HasSearched repo_disk far far' → root_disk.faults root ≤ root_disk.faults root' → HasFailureCause root_disk repo_disk (disks root repo opened) (disks root' repo' opened') f
       → (status_of (end_of f) ≤ 4 → IsTrue root_disk.tells → IsSettled root_disk root_store.base root')
       → (ChangesNothing (end_of f) → IsTrue root_disk.tells → root_disk.reads root' ≡ root_disk.reads root)
-      → (IsTrue root_disk.tells → IsTrue repo_disk.tells → (s : State) → StandsFor root_disk repo_disk (disks root repo opened) s → ChangesRoot root_disk (UpdatesTo options carried troves s) s root root' f)
+      → (IsTrue root_disk.tells → IsTrue repo_disk.tells → (s : State) → StandsFor root_disk repo_disk (disks root repo opened) s → ChangesRoot root_disk (JobFrom options carried step s) s root root' f)
       → Performed f
   performed_by f searched later cause rest keep changes = record {
     root_later = later;

@@ -17,3 +17,5 @@ pub mod MoreAnswers
 pub mod FarJobs
 pub mod ComingEnds
 pub mod SpecEnds
+pub mod SyncEnds
+pub mod JobStays

@@ -1,5 +1,5 @@
 -- How an update by specifications follows from the job of the troves that they reach.
-use Rattle.std.proofs.Common.{◌≡◌, ℕ, ◌+◌, ◌<◌, List, [], ◌∷◌, ◌++◌, length, take, drop, get_or, Result, Ok, Err, refl, sym, ◌∙◌, ap, subst, inl, inr, ⊎_elim, arith}
+use Rattle.std.proofs.Common.{◌≡◌, Bool, ℕ, ◌+◌, ◌<◌, List, [], ◌∷◌, ◌++◌, length, take, drop, get_or, Result, Ok, Err, refl, sym, ◌∙◌, ap, subst, inl, inr, ⊎_elim, arith}
 use Rattle.std.specs.Prelude.{IsTrue, Contains}
 use Rattle.std.proofs.lemmas.List.{take_more}
 use Rattle.std.proofs.lemmas.List.Elements.{All-contains, All-contains_itself, All-weaker, Contains-append_cases}
@@ -13,7 +13,7 @@ use Rattle.cli_call.specs.trove-stream.declared.parts.TroveParts.{TroveParts}
 use Rattle.trove_spec.specs.declared.config.Config.{Config}
 use Rattle.trove_spec.specs.Expansion.{IsExpansion, IsUnexpanded}
 use Rattle.trove_spec.specs.RootConfig.{HasConfig}
-use Rattle.repo_index.specs.Catalogue.{CatalogueParts}
+use Rattle.repo_index.specs.Catalogue.{AreCommitted, CatalogueParts}
 use Rattle.repo_load.specs.State.{troves_of, AreFollowing, Commit}
 use Rattle.repo_load.specs.Loading.{IsCatalogue}
 use Rattle.cli_call.specs.Command.{Disks, AreReady, StandsFor}
@@ -24,7 +24,9 @@ use Rattle.trove_spec.specs.AndThen.{AndThen, EndsAs}
 use Rattle.trove_spec.specs.Meant.{Means}
 use Rattle.cli_call.proofs.ReadingEnds.{CatalogueIs, config_of, troves_are}
 use Rattle.root_commands.specs.Update.{UpdatesTo}
-use Rattle.root_commands.specs.UpdateSpecs.{AreMeant, MeanAll, ReachAll, UpdatesFrom}
+use Rattle.root_commands.proofs.ComingEnds.{same_installed}
+use Rattle.system_core.proofs.Held.{OneDatabase}
+use Rattle.root_commands.specs.UpdateSpecs.{AreMeant, BringAll, MeanAll, ReachAll, UpdatesFrom}
 use Rattle.update_job.specs.trove-stream.Forbidden.{IsAllowed}
 use Rattle.local_db.proofs.cny-base.Lists.{split_at}
 
@@ -61,7 +63,7 @@ refused_as Test f ends refused is = subst (λ (e : Fault). EndsAs Test (Err e)) 
 
 -- ---- by a state that the disks store
 
-module _ {T P : Type 0} {root_disk : DiskModel T} {repo_disk : DiskModel P} (law : CatalogueIs) (options : Options) (givens : List GivenSpec) (old : Disks T P) (ready : AreReady root_disk repo_disk old)
+module _ {T P : Type 0} {root_disk : DiskModel T} {repo_disk : DiskModel P} (law : CatalogueIs) (database : OneDatabase) (options : Options) (resolve : Bool) (givens : List GivenSpec) (old : Disks T P) (ready : AreReady root_disk repo_disk old)
     (config : Config) (has : IsTrue root_disk.tells → HasConfig (root_disk.reads old.root) (Ok config)) (root_told : IsTrue root_disk.tells) (told : IsTrue repo_disk.tells) (s : State) (stands : StandsFor root_disk repo_disk old s) where
   troves_is : old.opened.catalogue.troves ≡ troves_of s.repository.commits
   troves_is = troves_are law old ready told s stands
@@ -69,7 +71,7 @@ module _ {T P : Type 0} {root_disk : DiskModel T} {repo_disk : DiskModel P} (law
   configured : HasConfig (tree_of s.root) (Ok config)
   configured = config_of old (Ok config) (has root_told) s stands
 
-  pub none_meant : (refused : Refusal) → MeanAll old.opened.catalogue.troves config givens (Err refused) → UpdatesFrom options givens s (Err refused)
+  pub none_meant : (refused : Refusal) → MeanAll old.opened.catalogue.troves config givens (Err refused) → UpdatesFrom options resolve givens s (Err refused)
   none_meant refused is = inl (record {
     value = config;
     found = configured;
@@ -77,18 +79,24 @@ module _ {T P : Type 0} {root_disk : DiskModel T} {repo_disk : DiskModel P} (law
   })
 
   module _ (ids : List TroveId) (meant : MeanAll old.opened.catalogue.troves config givens (Ok ids)) where
-    then : (outcome : Result Effect Refusal) → AndThen (ReachAll (troves_of s.repository.commits) ids) (λ (troves : List TroveParts). UpdatesTo options [] troves s) outcome → UpdatesFrom options givens s outcome
+    then : (outcome : Result Effect Refusal) → AndThen (BringAll resolve (troves_of s.repository.commits) s.root.installed config ids) (λ (troves : List TroveParts). UpdatesTo options [] troves s) outcome → UpdatesFrom options resolve givens s outcome
     then outcome is = inl (record {
       value = config;
       found = configured;
       rest = inl (record { value = ids; found = subst (λ (t : List TroveParts). MeanAll t config givens (Ok ids)) troves_is meant; rest = is });
     })
 
-    pub none_reached : (refused : Refusal) → ReachAll old.opened.catalogue.troves ids (Err refused) → UpdatesFrom options givens s (Err refused)
-    none_reached refused is = then (Err refused) (inr (record { refusal = refused; refused = subst (λ (t : List TroveParts). ReachAll t ids (Err refused)) troves_is is; is = refl }))
+    -- what was sought of the lists at hand is so of those of the state
+    brought : (found : Result (List TroveParts) Refusal) → BringAll resolve old.opened.catalogue.troves old.opened.db.installed config ids found → BringAll resolve (troves_of s.repository.commits) s.root.installed config ids found
+    brought found is =
+        subst (λ (t : List TroveParts). BringAll resolve t s.root.installed config ids found) troves_is
+        (subst (λ (list : List TroveParts). BringAll resolve old.opened.catalogue.troves list config ids found) (same_installed database old ready root_told s stands) is)
 
-    pub all_updated : (troves : List TroveParts) → ReachAll old.opened.catalogue.troves ids (Ok troves) → (outcome : Result Effect Refusal) → UpdatesTo options [] troves s outcome → UpdatesFrom options givens s outcome
-    all_updated troves is outcome updates = then outcome (inl (record { value = troves; found = subst (λ (t : List TroveParts). ReachAll t ids (Ok troves)) troves_is is; rest = updates }))
+    pub none_brought : (refused : Refusal) → BringAll resolve old.opened.catalogue.troves old.opened.db.installed config ids (Err refused) → UpdatesFrom options resolve givens s (Err refused)
+    none_brought refused is = then (Err refused) (inr (record { refusal = refused; refused = brought (Err refused) is; is = refl }))
+
+    pub all_updated : (troves : List TroveParts) → BringAll resolve old.opened.catalogue.troves old.opened.db.installed config ids (Ok troves) → (outcome : Result Effect Refusal) → UpdatesTo options [] troves s outcome → UpdatesFrom options resolve givens s outcome
+    all_updated troves is outcome updates = then outcome (inl (record { value = troves; found = brought (Ok troves) is; rest = updates }))
 
 -- ---- committed troves record no forbidden path
 
@@ -99,8 +107,11 @@ committed_allowed before (troves ∷ commits) following t among = ⊎_elim
     (λ (later : Contains (troves_of commits) t). committed_allowed (before ++ troves) commits following.1 t later)
     (Contains-append_cases troves (troves_of commits) t among)
 
-pub reached_allowed : (catalogue : CatalogueParts) → IsCatalogue catalogue → (ids : List TroveId) (found : List TroveParts) → IsExpansion catalogue.troves ids found → AllPathsAllowed found
-reached_allowed catalogue rules ids found is = All-weaker (Contains found) IsAllowed
+pub all_allowed : (catalogue : CatalogueParts) → IsCatalogue catalogue → (found : List TroveParts) → AreCommitted catalogue.troves found → AllPathsAllowed found
+all_allowed catalogue rules found are = All-weaker (Contains found) IsAllowed
     (λ (t : TroveParts) (among : Contains found t). committed_allowed [] rules.commits rules.rules.following t
-    (subst (λ (c : CatalogueParts). Contains c.troves t) rules.is (is.there t among)))
+    (subst (λ (c : CatalogueParts). Contains c.troves t) rules.is (are t among)))
     found (All-contains_itself found)
+
+pub reached_allowed : (catalogue : CatalogueParts) → IsCatalogue catalogue → (ids : List TroveId) (found : List TroveParts) → IsExpansion catalogue.troves ids found → AllPathsAllowed found
+reached_allowed catalogue rules ids found is = all_allowed catalogue rules found is.there

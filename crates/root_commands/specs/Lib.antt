@@ -10,3 +10,4 @@ pub mod Erase
 pub mod Install
 pub mod Update
 pub mod UpdateSpecs
+pub mod Syncing

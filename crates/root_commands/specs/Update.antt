@@ -9,7 +9,7 @@ use Rattle.cli_call.specs.change-set.declared.change.Part.{Part}
 use Rattle.update_job.specs.Made.{AreMade, IsFirstRefused}
 use Rattle.cli_call.specs.content-store.Contents.{Answers, ContentMap}
 use Rattle.system_core.specs.Job.{sources_of}
-use Rattle.system_core.specs.Lists.{to_updated}
+use Rattle.system_core.specs.Lists.{to_updated, ListStep}
 use Rattle.cli_call.specs.cny-laws.State.{Effect, Meaning, State}
 use Rattle.cli_call.specs.SetInput.{OfChangeSet}
 use Rattle.trove_spec.specs.AndThen.{AndThen}
@@ -19,13 +19,25 @@ use Rattle.root_commands.specs.JobOutcome.{JobOutcome}
 abbrev pub answers_of : ContentMap → Answers
 answers_of contents name found = found ≡ contents name
 
--- The job of these troves, each in place of what its name reached, with the contents that come along and those of the repository.
+-- The job of the list that follows so of the installed one, with the contents that come along and those of the repository.
+abbrev pub JobFrom : Options → List Carried → (List TroveParts → ListStep) → State → Result Effect Refusal → Type 0
+JobFrom options carried step s = JobOutcome (sources_of carried (answers_of s.repository.contents) options) (step s.root.installed) s.root
+
+-- the same, as a meaning that takes no input
+abbrev pub job_from : Options → List Carried → (List TroveParts → ListStep) → Meaning
+job_from options carried step = record { takes_input = false; IsOutcome = λ s input. JobFrom options carried step s }
+
+-- these troves follow, each in place of what its name reached
+abbrev pub with_come : List TroveParts → List TroveParts → ListStep
+with_come troves installed = to_updated installed troves
+
+-- the job of these troves
 abbrev pub UpdatesTo : Options → List Carried → List TroveParts → State → Result Effect Refusal → Type 0
-UpdatesTo options carried troves s = JobOutcome (sources_of carried (answers_of s.repository.contents) options) (to_updated s.root.installed troves) s.root
+UpdatesTo options carried troves s = JobFrom options carried (with_come troves) s
 
 -- the same, as a meaning that takes no input
 abbrev pub update_to : Options → List Carried → List TroveParts → Meaning
-update_to options carried troves = record { takes_input = false; IsOutcome = λ s input. UpdatesTo options carried troves s }
+update_to options carried troves = job_from options carried (with_come troves)
 
 -- ---- a change set
 

@@ -1,5 +1,5 @@
 -- What `update` of specifications means.
-use Rattle.std.specs.Prelude.{◌≡◌, false, List, [], ◌∷◌, ◌++◌, None, Result, Ok, Err}
+use Rattle.std.specs.Prelude.{◌≡◌, Bool, true, false, List, [], ◌∷◌, ◌++◌, None, Result, Ok, Err}
 use Rattle.cli_call.specs.cny-base.declared.options.Options.{Options}
 use Rattle.cli_call.specs.cny-base.declared.refusal.Refusal.{Refusal}
 use Rattle.cli_call.specs.trove-parts.declared.id.TroveId.{TroveId}
@@ -12,6 +12,7 @@ use Rattle.cli_call.specs.cny-laws.State.{tree_of, Effect, Meaning, State}
 use Rattle.trove_spec.specs.declared.given.GivenSpec.{GivenSpec}
 use Rattle.trove_spec.specs.AndThen.{AndThen}
 use Rattle.trove_spec.specs.Meant.{Means}
+use Rattle.dep_resolve.specs.Rounds.{Completes}
 use Rattle.root_commands.specs.Update.{UpdatesTo}
 
 -- each specification means the trove of the id at its place
@@ -41,14 +42,20 @@ abbrev pub ReachAll : List TroveParts → List TroveId → Result (List TrovePar
 ReachAll troves ids (Ok found) = IsExpansion troves ids found × (first_of_same_name found ≡ None)
 ReachAll troves ids (Err refused) = IsOfOneName troves ids refused
 
--- What the specifications mean, with all that it reaches, is put in with the contents of the repository: first the configuration is
--- read, then each specification is resolved, then there is one expansion.
-abbrev pub UpdatesFrom : Options → List GivenSpec → State → Result Effect Refusal → Type 0
-UpdatesFrom options givens s =
+-- the troves that these ids bring: all that they reach or, where the update completes itself, those of the round with which it ends
+abbrev pub BringAll : Bool → List TroveParts → List TroveParts → Config → List TroveId → Result (List TroveParts) Refusal → Type 0
+BringAll false troves installed config ids result = ReachAll troves ids result
+BringAll true troves installed config ids result = Completes troves installed config ids result
+
+-- What the specifications mean, with all that it brings, is put in with the contents of the repository: first the configuration is
+-- read, then each specification is resolved, then what they bring is sought together.
+abbrev pub UpdatesFrom : Options → Bool → List GivenSpec → State → Result Effect Refusal → Type 0
+UpdatesFrom options resolve givens s =
     AndThen (HasConfig (tree_of s.root)) (λ (config : Config).
     AndThen (MeanAll (troves_of s.repository.commits) config givens) (λ (ids : List TroveId).
-    AndThen (ReachAll (troves_of s.repository.commits) ids) (λ (troves : List TroveParts).
+    AndThen (BringAll resolve (troves_of s.repository.commits) s.root.installed config ids) (λ (troves : List TroveParts).
     UpdatesTo options [] troves s)))
 
-abbrev pub update_specs : Options → List GivenSpec → Meaning
-update_specs options givens = record { takes_input = false; IsOutcome = λ s input. UpdatesFrom options givens s }
+-- the update by specifications, which completes itself or not
+abbrev pub update_specs : Options → Bool → List GivenSpec → Meaning
+update_specs options resolve givens = record { takes_input = false; IsOutcome = λ s input. UpdatesFrom options resolve givens s }

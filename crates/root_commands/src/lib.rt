@@ -2,7 +2,7 @@
 //! in a file of its own in `specs/`, and a function of which it is proved that it performs this meaning, that it works on the root
 //! alone, and that a further command may begin where it is done.
 //!
-//! `verify_fully`, `update_specs` and `update_input` read the repository too, and lack the second of these clauses.
+//! `verify_fully`, `update_specs`, `update_input` and `sync_to_model` read the repository too, and lack the second of these clauses.
 #![tactic(auto)]
 
 mod erasing;
@@ -13,6 +13,7 @@ mod local;
 mod noting;
 mod rolling_back;
 mod specified;
+mod syncing;
 mod updating;
 mod verifying;
 
@@ -23,5 +24,6 @@ pub use listing::list_installed;
 pub use local::change_locally;
 pub use rolling_back::roll_back;
 pub use specified::update_specs;
+pub use syncing::sync_to_model;
 pub use updating::update_input;
 pub use verifying::{verify_fully, verify_installed};

@@ -7,7 +7,7 @@ use Rattle.cli_call.proofs.AfterReading.{performs_since}
 use Rattle.cli_call.proofs.ReadingEnds.{config_made, config_stopped, fault_ends, ready_on, root_read}
 use Rattle.root_commands.specs.Update as update
 use Rattle.root_commands.specs.UpdateSpecs as spec
-use Rattle.root_commands.proofs.SpecEnds.{all_updated, none_meant, none_reached, refused_as}
+use Rattle.root_commands.proofs.SpecEnds.{all_updated, none_meant, none_brought, refused_as}
 use Rattle.local_db.proofs.cny-base.Passing.{err_is}
 use Rattle.update_job.proofs.change-set.Carrying.{no_carried}
 use Rattle.cli_call.proofs.StoreLaws.{nothing_done}
@@ -15,7 +15,7 @@ use Rattle.root_commands.proofs.specified.update_specs.Goals as goal
 
 pub returns-in_err-config-clause-performs : goal.returns-in_err-config-clause-performs
 returns-in_err-config-clause-performs g c = λ input.
-    let meaning = spec.update_specs c.args.options.now c.args.givens.now in
+    let meaning = spec.update_specs c.args.options.now c.args.resolve c.args.givens.now in
     let old = disks c.args.root.now c.args.repo.now c.args.opened.now in
     let mid = disks c.read_config.new.root c.args.repo.now c.args.opened.now in
     err_is (Performs g.T.TreeDisk.disk g.P.TreeDisk.disk meaning input old mid) c.from_residual.result c.in_err-config.field-0.0 c.from_residual.ensures.1
@@ -25,31 +25,31 @@ returns-in_err-config-clause-performs g c = λ input.
 
 pub returns-in_err-ids-clause-performs : goal.returns-in_err-ids-clause-performs
 returns-in_err-ids-clause-performs g c = λ input.
-    let meaning = spec.update_specs c.args.options.now c.args.givens.now in
+    let meaning = spec.update_specs c.args.options.now c.args.resolve c.args.givens.now in
     let old = disks c.args.root.now c.args.repo.now c.args.opened.now in
     let mid = disks c.read_config.new.root c.args.repo.now c.args.opened.now in
     let configured = config_made g.T.TreeDisk.disk c.args.root.now c.read_config.new.root c.read_config.result c.read_config.ensures c.in_ok-config.config (sym c.on_root.ensures ∙ c.in_ok-config.was) in
     err_is (Performs g.T.TreeDisk.disk g.P.TreeDisk.disk meaning input old mid) c.from_residual-in_err-ids.result (failure_of_fault c.in_err-ids.field-0.0) c.from_residual-in_err-ids.ensures.1
     (fault_ends g.met.T.TreeDisk.laws g.met.P.TreeDisk.laws c.store_laws.ensures meaning input old mid c.requires
     (root_read g.met.T.TreeDisk.laws g.met.P.TreeDisk.laws c.args.root.now c.read_config.new.root c.args.repo.now c.args.opened.now configured.later configured.same) c.in_err-ids.field-0.0
-    (λ refused is told repo_told s stands. none_meant c.stored_state.ensures.catalogue c.args.options.now c.args.givens.now old c.requires c.in_ok-config.config configured.ends told repo_told s stands refused
+    (λ refused is told repo_told s stands. none_meant c.stored_state.ensures.catalogue c.distinct_databases.ensures.unique c.args.options.now c.args.resolve c.args.givens.now old c.requires c.in_ok-config.config configured.ends told repo_told s stands refused
     (refused_as (spec.MeanAll c.args.opened.now.catalogue.troves c.in_ok-config.config c.args.givens.now) c.in_err-ids.field-0.0 c.in_err-ids.ensures refused is)))
 
 pub returns-in_err-troves-clause-performs : goal.returns-in_err-troves-clause-performs
 returns-in_err-troves-clause-performs g c = λ input.
-    let meaning = spec.update_specs c.args.options.now c.args.givens.now in
+    let meaning = spec.update_specs c.args.options.now c.args.resolve c.args.givens.now in
     let old = disks c.args.root.now c.args.repo.now c.args.opened.now in
     let mid = disks c.read_config.new.root c.args.repo.now c.args.opened.now in
     let configured = config_made g.T.TreeDisk.disk c.args.root.now c.read_config.new.root c.read_config.result c.read_config.ensures c.in_ok-config.config (sym c.on_root.ensures ∙ c.in_ok-config.was) in
     err_is (Performs g.T.TreeDisk.disk g.P.TreeDisk.disk meaning input old mid) c.from_residual-in_err-troves.result (failure_of_fault c.in_err-troves.field-0.0) c.from_residual-in_err-troves.ensures.1
     (fault_ends g.met.T.TreeDisk.laws g.met.P.TreeDisk.laws c.store_laws.ensures meaning input old mid c.requires
     (root_read g.met.T.TreeDisk.laws g.met.P.TreeDisk.laws c.args.root.now c.read_config.new.root c.args.repo.now c.args.opened.now configured.later configured.same) c.in_err-troves.field-0.0
-    (λ refused is told repo_told s stands. none_reached c.stored_state.ensures.catalogue c.args.options.now c.args.givens.now old c.requires c.in_ok-config.config configured.ends told repo_told s stands c.in_ok-ids.ids c.in_ok-ids.ensures refused
-    (refused_as (spec.ReachAll c.args.opened.now.catalogue.troves c.in_ok-ids.ids) c.in_err-troves.field-0.0
-    (subst (λ (ids : List TroveId). EndsAs (spec.ReachAll c.args.opened.now.catalogue.troves ids) (Err c.in_err-troves.field-0.0)) c.get.ensures c.in_err-troves.ensures.ends) refused is)))
+    (λ refused is told repo_told s stands. none_brought c.stored_state.ensures.catalogue c.distinct_databases.ensures.unique c.args.options.now c.args.resolve c.args.givens.now old c.requires c.in_ok-config.config configured.ends told repo_told s stands c.in_ok-ids.ids c.in_ok-ids.ensures refused
+    (refused_as (spec.BringAll c.args.resolve c.args.opened.now.catalogue.troves c.args.opened.now.db.installed c.in_ok-config.config c.in_ok-ids.ids) c.in_err-troves.field-0.0
+    (subst (λ (ids : List TroveId). EndsAs (spec.BringAll c.args.resolve c.args.opened.now.catalogue.troves c.args.opened.now.db.installed c.in_ok-config.config ids) (Err c.in_err-troves.field-0.0)) c.get.ensures c.in_err-troves.ensures.ends) refused is)))
 
-pub all_reached-requires : goal.all_reached-requires
-all_reached-requires g c = c.requires.rules
+pub all_brought-requires : goal.all_brought-requires
+all_brought-requires g c = c.requires.rules
 
 pub update_to-requires-clause-allowed : goal.update_to-requires-clause-allowed
 update_to-requires-clause-allowed g c = rw c.get-2.ensures c.in_ok-troves.ensures.allowed
@@ -70,8 +70,8 @@ returns-clause-performs g c = λ input.
     let configured = config_made g.T.TreeDisk.disk c.args.root.now c.read_config.new.root c.read_config.result c.read_config.ensures c.in_ok-config.config (sym c.on_root.ensures ∙ c.in_ok-config.was) in
     performs_since g.met.T.TreeDisk.laws g.met.P.TreeDisk.laws c.store_laws.ensures old mid new
     (root_read g.met.T.TreeDisk.laws g.met.P.TreeDisk.laws c.args.root.now c.read_config.new.root c.args.repo.now c.args.opened.now configured.later configured.same) c.update_to.result
-    (update.update_to c.args.options.now [] c.in_ok-troves.troves) (spec.update_specs c.args.options.now c.args.givens.now) input input
-    (λ told repo_told s stands outcome is. all_updated c.stored_state.ensures.catalogue c.args.options.now c.args.givens.now old c.requires c.in_ok-config.config configured.ends told repo_told s stands c.in_ok-ids.ids c.in_ok-ids.ensures c.in_ok-troves.troves (rw c.get.ensures at c.in_ok-troves.ensures.ends) outcome is)
+    (update.update_to c.args.options.now [] c.in_ok-troves.troves) (spec.update_specs c.args.options.now c.args.resolve c.args.givens.now) input input
+    (λ told repo_told s stands outcome is. all_updated c.stored_state.ensures.catalogue c.distinct_databases.ensures.unique c.args.options.now c.args.resolve c.args.givens.now old c.requires c.in_ok-config.config configured.ends told repo_told s stands c.in_ok-ids.ids c.in_ok-ids.ensures c.in_ok-troves.troves (rw c.get.ensures at c.in_ok-troves.ensures.ends) outcome is)
     (rw c.get-2.ensures at c.update_to.ensures.performs input)
 
 pub returns-in_err-config-clause-repo_read : goal.returns-in_err-config-clause-repo_read

@@ -28,7 +28,7 @@ returns-in_err-done-clause-performs g c = λ input.
     let carried = c.args.carried.now in
     let troves = c.args.troves.now in
     let laws : RepositoryLaws = record { catalogue = c.stored_state.ensures.catalogue; content = c.stored_state.ensures.content; contents = c.stored_state.ensures.contents; store = c.store_laws.ensures } in
-    let ran : RanFar disk repo_disk options carried troves root root' far far' c.update.new.db c.update.result = record {
+    let ran : RanFar disk repo_disk options carried (spec.with_come troves) root root' far far' c.update.new.db c.update.result = record {
       ends = c.update.ensures.ends;
       rests = λ told. ready_rests _ _ _ c.update.result (c.update.ensures.again told);
       refused = λ told. reads_refused g.met.T.TreeDisk.laws (sources_of carried (let contents = repo_contents repo_disk in contents.answers far) options) (to_updated opened.db.installed troves) opened.db root root' c.update.new.db c.update.result c.update.ensures.answers told;
@@ -43,7 +43,7 @@ returns-in_err-done-clause-performs g c = λ input.
     let meaning = spec.update_to options carried troves in
     err_is (Performs disk repo_disk meaning input (disks root c.args.repo.now opened) (disks root' c.repo-1.given.0 opened')) c.from_residual.result c.in_err-done.field-0.0 c.from_residual.ensures.1
     (performed_at root root' opened opened' meaning input (Err c.in_err-done.field-0.0) far.disk.now c.args.repo.now far'.disk.now c.repo-1.given.0 c.new-far.ensures.disk after
-    (failed_performs g.met.T.TreeDisk.laws g.met.P.TreeDisk.laws c.distinct_databases.ensures.unique laws root root' far far' opened opened' c.new-far.ensures.catalogue ready options carried troves input c.update.result c.in_err-done.field-0.0 (sym c.on_root.ensures ∙ c.in_err-done.was) ran))
+    (failed_performs g.met.T.TreeDisk.laws g.met.P.TreeDisk.laws c.distinct_databases.ensures.unique laws root root' far far' opened opened' c.new-far.ensures.catalogue ready options carried (spec.with_come troves) input c.update.result c.in_err-done.field-0.0 (sym c.on_root.ensures ∙ c.in_err-done.was) ran))
 
 pub returns-in_err-changes_text-clause-performs : goal.returns-in_err-changes_text-clause-performs
 returns-in_err-changes_text-clause-performs g c = λ input.
@@ -59,7 +59,7 @@ returns-in_err-changes_text-clause-performs g c = λ input.
     let carried = c.args.carried.now in
     let troves = c.args.troves.now in
     let laws : RepositoryLaws = record { catalogue = c.stored_state.ensures.catalogue; content = c.stored_state.ensures.content; contents = c.stored_state.ensures.contents; store = c.store_laws.ensures } in
-    let ran : RanFar disk repo_disk options carried troves root root' far far' c.update.new.db c.update.result = record {
+    let ran : RanFar disk repo_disk options carried (spec.with_come troves) root root' far far' c.update.new.db c.update.result = record {
       ends = c.update.ensures.ends;
       rests = λ told. ready_rests _ _ _ c.update.result (c.update.ensures.again told);
       refused = λ told. reads_refused g.met.T.TreeDisk.laws (sources_of carried (let contents = repo_contents repo_disk in contents.answers far) options) (to_updated opened.db.installed troves) opened.db root root' c.update.new.db c.update.result c.update.ensures.answers told;
@@ -74,7 +74,7 @@ returns-in_err-changes_text-clause-performs g c = λ input.
     let meaning = spec.update_to options carried troves in
     err_is (Performs disk repo_disk meaning input (disks root c.args.repo.now opened) (disks root' c.repo-1.given.0 opened')) c.from_residual-in_err-changes_text.result failure.Memory c.from_residual-in_err-changes_text.ensures.1
     (performed_at root root' opened opened' meaning input (Err failure.Memory) far.disk.now c.args.repo.now far'.disk.now c.repo-1.given.0 c.new-far.ensures.disk after
-    (memory_performs g.met.T.TreeDisk.laws g.met.P.TreeDisk.laws c.distinct_databases.ensures.unique laws root root' far far' opened opened' c.new-far.ensures.catalogue ready options carried troves input c.update.result c.in_ok-done.done (sym c.on_root.ensures ∙ c.in_ok-done.was) ran))
+    (memory_performs g.met.T.TreeDisk.laws g.met.P.TreeDisk.laws c.distinct_databases.ensures.unique laws root root' far far' opened opened' c.new-far.ensures.catalogue ready options carried (spec.with_come troves) input c.update.result c.in_ok-done.done (sym c.on_root.ensures ∙ c.in_ok-done.was) ran))
 
 pub returns-clause-performs : goal.returns-clause-performs
 returns-clause-performs g c = λ input.
@@ -90,7 +90,7 @@ returns-clause-performs g c = λ input.
     let carried = c.args.carried.now in
     let troves = c.args.troves.now in
     let laws : RepositoryLaws = record { catalogue = c.stored_state.ensures.catalogue; content = c.stored_state.ensures.content; contents = c.stored_state.ensures.contents; store = c.store_laws.ensures } in
-    let ran : RanFar disk repo_disk options carried troves root root' far far' c.update.new.db c.update.result = record {
+    let ran : RanFar disk repo_disk options carried (spec.with_come troves) root root' far far' c.update.new.db c.update.result = record {
       ends = c.update.ensures.ends;
       rests = λ told. ready_rests _ _ _ c.update.result (c.update.ensures.again told);
       refused = λ told. reads_refused g.met.T.TreeDisk.laws (sources_of carried (let contents = repo_contents repo_disk in contents.answers far) options) (to_updated opened.db.installed troves) opened.db root root' c.update.new.db c.update.result c.update.ensures.answers told;
@@ -104,7 +104,7 @@ returns-clause-performs g c = λ input.
     let after : far'.disk.now ≡ c.repo-1.given.0 = search rules in
     let meaning = spec.update_to options carried troves in
     (performed_at root root' opened opened' meaning input (Ok c.in_ok-changes_text.field-0) far.disk.now c.args.repo.now far'.disk.now c.repo-1.given.0 c.new-far.ensures.disk after
-    (told_performs g.met.T.TreeDisk.laws g.met.P.TreeDisk.laws c.distinct_databases.ensures.unique laws root root' far far' opened opened' c.new-far.ensures.catalogue ready options carried troves input c.update.result c.in_ok-done.done c.in_ok-changes_text.field-0 (sym c.on_root.ensures ∙ c.in_ok-done.was) ran
+    (told_performs g.met.T.TreeDisk.laws g.met.P.TreeDisk.laws c.distinct_databases.ensures.unique laws root root' far far' opened opened' c.new-far.ensures.catalogue ready options carried (spec.with_come troves) input c.update.result c.in_ok-done.done c.in_ok-changes_text.field-0 (sym c.on_root.ensures ∙ c.in_ok-done.was) ran
     (c.in_ok-changes_text.ensures.value ∙ ap changes_text c.get.ensures)))
 
 -- a job was done, and the repository was only read
