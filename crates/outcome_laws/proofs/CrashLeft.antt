@@ -38,7 +38,7 @@ module _ {D : Type 0} {disk : DiskModel D} (laws : IsDisk disk) where
   left_now Is old new leaves image is = leaves.each image (laws.counts_now new (disk.now old) image leaves.later is)
 
 -- of a synced disk a crash leaves just what it reads
-left_synced : {D : Type 0} (disk : DiskModel D) (d : D) → IsSynced disk d → (image : Tree) → IsImageOf disk d image → image ≡ disk.reads d
+pub left_synced : {D : Type 0} (disk : DiskModel D) (d : D) → IsSynced disk d → (image : Tree) → IsImageOf disk d image → image ≡ disk.reads d
 left_synced disk d synced image is = same_tree image (disk.reads d) (λ q. is.synced q (synced q))
 
 -- ---- states

@@ -26,3 +26,8 @@ pub mod OneSpec
 pub mod OneWords
 pub mod OnDisks
 pub mod OpenedStates
+pub mod MadeEvents
+pub mod CanDecide
+pub mod InTheWay
+pub mod PlayedStates
+pub mod CalledLine

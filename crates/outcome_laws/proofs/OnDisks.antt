@@ -60,7 +60,7 @@ third_status failure.RepositoryFault is = absurd (cc is)
 third_status failure.Memory is = absurd (cc is)
 third_status (failure.Damaged path) is = absurd (cc is)
 
-never_zero : (e : Failure) (err err' : SinkState) (status : ℕ) → Reports (Err e) err err' status → status ≡ 0 → ⊥
+pub never_zero : (e : Failure) (err err' : SinkState) (status : ℕ) → Reports (Err e) err err' status → status ≡ 0 → ⊥
 never_zero e err err' status (inl tells) zero_is = some_status e (sym tells.answered ∙ zero_is)
 never_zero e err err' status (inr tells) zero_is = absurd (cc (sym tells.1.answered ∙ zero_is))
 
@@ -85,7 +85,7 @@ low_zero status is (inr two) = absurd (cc (sym is ∙ two))
 none_cut : (l : Line) (s : State) (status : ℕ) → (status ≡ 0 → ⊥) → IsCut l s status 0
 none_cut l s status some = record { all = λ is. absurd (some is); none = λ is. refl; refused = λ low c single. refl }
 
-none_leads : (l : Line) (s t : State) (status : ℕ) → (status ≡ 0 → ⊥) → t ≡ s → LeadsBy status l s t
+pub none_leads : (l : Line) (s t : State) (status : ℕ) → (status ≡ 0 → ⊥) → t ≡ s → LeadsBy status l s t
 none_leads l s t status some same = (0, none_cut l s status some, same)
 
 -- or some
@@ -190,7 +190,7 @@ module _ (l : Line) (c : Command) (are : AreCall l.words (Ok (call.Single c))) (
 -- ---- a call
 
 -- one of some states, and from it by a call that ended so
-abbrev Led : (State → Type 0) → ℕ → Line → State → Type 0
+abbrev pub Led : (State → Type 0) → ℕ → Line → State → Type 0
 Led Is status l u = (t : State) × Is t × LeadsBy status l t u
 
 module _ {T P : Type 0} {root_disk : DiskModel T} {repo_disk : DiskModel P} (root_disk_laws : IsDisk root_disk) (repo_disk_laws : IsDisk repo_disk) (repo_laws : IsStore repository_store) (root_told : IsTrue root_disk.tells) (repo_told : IsTrue repo_disk.tells)
@@ -306,7 +306,7 @@ module _ {T P : Type 0} {root_disk : DiskModel T} {repo_disk : DiskModel P} (roo
 -- ---- histories
 
 module _ {T P : Type 0} {root_disk : DiskModel T} {repo_disk : DiskModel P} (root_disk_laws : IsDisk root_disk) (repo_disk_laws : IsDisk repo_disk) (repo_laws : IsStore repository_store) (root_told : IsTrue root_disk.tells) (repo_told : IsTrue repo_disk.tells) (calls : (words : List (List ℕ)) → AtMostOne (AreCall words)) where
-  called_left : (Is : State → Type 0) (l : Line) (status : ℕ) (root root' : T) (repo repo' : P) → CrashesTo root_disk repo_disk Is root repo → WasCalled root_disk repo_disk l status root root' repo repo' → CrashesTo root_disk repo_disk (Led Is status l) root' repo'
+  pub called_left : (Is : State → Type 0) (l : Line) (status : ℕ) (root root' : T) (repo repo' : P) → CrashesTo root_disk repo_disk Is root repo → WasCalled root_disk repo_disk l status root root' repo repo' → CrashesTo root_disk repo_disk (Led Is status l) root' repo'
   called_left Is l status root root' repo repo' crashes h = ⊎_elim
       (λ some. program root_disk_laws repo_disk_laws repo_laws root_told repo_told Is l root root' repo repo' crashes h.input h.out h.written h.err h.told status calls some.0 some.1 some.2)
       (λ none. no_call root_disk_laws repo_disk_laws repo_laws root_told repo_told Is l root root' repo repo' crashes h.input h.out h.written h.err h.told status calls failure.Memory none)

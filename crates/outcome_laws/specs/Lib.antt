@@ -5,3 +5,5 @@ pub mod Machine
 pub mod Histories
 pub mod Images
 pub mod OnDisks
+pub mod Play
+pub mod Played

@@ -8,7 +8,9 @@ mod histories;
 mod images;
 mod opened;
 mod outcomes;
+mod playing;
 
+pub use conary_cli;
 pub use histories::{
     counted_calls, one_history, one_outcome, one_reading, restored_jobs, root_steps, sound_lists,
 };
@@ -19,3 +21,4 @@ pub use outcomes::{
     one_list_installed, one_list_jobs, one_local_change, one_moving, one_rollback, one_sending,
     one_update, one_update_by_input, one_verification, stored_states,
 };
+pub use playing::{Event, play};
