@@ -18,7 +18,7 @@ from tools.model.trees import Refused, Tree, is_within
 
 NAMES, FILES, LABELS = ("kill-a", "kill-b", "kill-c"), 4, ("soak.example.com@ex:devel", "soak.example.com@ex:stable")
 CONFIGS = ("", f"installLabelPath {LABELS[0]}\n", f"# none\ninstallLabelPath {LABELS[1]} {LABELS[0]}\nflavor ~ssl\n", "installLabelPath x\n")
-SIZE, PAGE, TOLD_EACH = 64 << 20, 4096, 100
+SIZE, PAGE, TOLD_EACH, COMMANDS_IN_A_ROOM = 64 << 20, 4096, 100, 60
 # The calls before which a command is killed, and at most the how manieth of one.
 KILLED_AT, LAST, HAS_STRACE = ("openat", "write", "fsync", "rename", "unlink", "mkdir", "chmod", "fchmod"), 12, bool(shutil.which("strace"))
 
@@ -76,8 +76,14 @@ class Room:
         self.folder, self.filler = folder, folder / "filler"
         mount = ["mount", "-t", "tmpfs", "-o", f"size={SIZE}", "soak", folder]
         self.is_mounted = not os.geteuid() and not subprocess.run(mount, stderr=subprocess.DEVNULL).returncode
+        self.begin()
+
+    def begin(self):
+        """Empties both directories."""
+        for path in ("root", "repo"):
+            shutil.rmtree(self.folder / path, ignore_errors=True)
         for path in ("root/var/lib", "root/etc", "root/srv", "repo"):
-            os.makedirs(folder / path)
+            os.makedirs(self.folder / path)
 
     def leave(self, pages):
         there = os.statvfs(self.folder)
@@ -312,6 +318,8 @@ def main():
         soak, differ = Soak(program, room), []
         try:
             while soak.counts["commands"] < commands and not differ:
+                if soak.counts["commands"] % COMMANDS_IN_A_ROOM == 0:
+                    room.begin()
                 differ = soak.step()
                 if soak.counts["commands"] % TOLD_EACH == 0:
                     soak.say(len(differ))
