@@ -15,6 +15,7 @@ pub mod Sourced
 pub mod ContentsLaws
 pub mod Following
 pub mod Holding
+pub mod Seeing
 pub mod LooksLaws
 pub use Rattle.content_store.proofs as content-store
 pub use Rattle.repo_index.proofs.cny-base

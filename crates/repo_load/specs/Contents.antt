@@ -1,5 +1,5 @@
 -- What is read of a repository's contents.
-use Rattle.std.specs.Prelude.{◌≡◌, false, true, IsTrue, List, ℕ, length, Option, Some, None}
+use Rattle.std.specs.Prelude.{◌≡◌, false, true, IsTrue, List, ℕ, length, if◌then◌else◌, Option, Some, None}
 use Rattle.sha1.specs.Sha1.{sha1}
 use Rattle.repo_index.specs.trove-stream.declared.parts.TroveParts.{TroveParts}
 use Rattle.journal_log.specs.tree-disk.Tree.{Name, Tree}
@@ -12,6 +12,11 @@ use Rattle.repo_load.specs.Files.{contents_dir}
 pub record IsRecorded (troves : List TroveParts) (name bytes : List ℕ) : Type 0 where
   pub named : sha1 bytes ≡ name
   pub recorded : IsTrue (records_content name (length bytes) troves)
+
+-- the bytes of a file, where one of the troves records a file of this name and of their size
+abbrev pub sized_bytes : List TroveParts → List ℕ → Option (List ℕ) → Option (List ℕ)
+sized_bytes troves name None = None
+sized_bytes troves name (Some bytes) = if records_content name (length bytes) troves then Some bytes else None
 
 -- on any disk: none where no trove names the content
 abbrev pub IsSoundAnswer : List TroveParts → List ℕ → Option (List ℕ) → Type 0
