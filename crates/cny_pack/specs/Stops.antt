@@ -2,12 +2,9 @@
 use Rattle.cny_flow.specs.declared.fault.FlowFault.{FlowFault}
 use Rattle.cny_flow.specs.declared.fault.FlowFault.TheVariants as flow
 use Rattle.tree_disk.specs.cny-base.declared.stop.Stop.{Stop}
-use Rattle.tree_disk.specs.declared.disk.DiskStop.{DiskStop}
-use Rattle.tree_disk.specs.declared.disk.DiskStop.TheVariants as disk
 use Rattle.tree_disk.specs.cny-base.declared.stop.Stop.TheVariants as stop
 use Rattle.cny_pack.specs.declared.stop.Halt.{Halt}
 use Rattle.cny_pack.specs.declared.stop.Halt.TheVariants as halt
-use Rattle.cny_pack.specs.declared.stop.Unfit.TheVariants.{Changed}
 use Rattle.cny_pack.specs.declared.stop.PackStop.{PackStop}
 use Rattle.cny_pack.specs.declared.stop.PackStop.TheVariants as pack
 
@@ -15,13 +12,11 @@ abbrev pub halt_of_flow : FlowFault → Halt
 halt_of_flow flow.Failed = halt.SinkFailed
 halt_of_flow flow.Memory = halt.Memory
 
--- a disk that refuses to read holds no file there any more
-abbrev pub halt_of_disk : DiskStop → Halt
-halt_of_disk disk.Failed = halt.DiskFailed
-halt_of_disk disk.Refused = halt.Unfit Changed
-halt_of_disk disk.Memory = halt.Memory
-
 -- a step of a disk stops by a fault or for want of memory alone
+abbrev pub halt_of_step : Stop → Halt
+halt_of_step stop.Failed = halt.DiskFailed
+halt_of_step _ = halt.Memory
+
 abbrev pub stop_of_step : Stop → PackStop
 stop_of_step stop.Failed = pack.DiskFailed
 stop_of_step _ = pack.Memory

@@ -1,12 +1,14 @@
 //! The contents of files, in pieces.
-ghost use Rattle.std.specs.Prelude.{◌≡◌, ◌≤◌, ◌-◌, IfOk, OnOk, IsTrue};
+ghost use Rattle.std.specs.Prelude.{◌≡◌, ◌≤◌, ◌-◌, length, IfOk, OnOk, IsTrue};
+ghost use Rattle.tree_disk.specs.Looks.{sees_file};
+ghost use Rattle.tree_disk.specs.Rows.{is_file_at};
 ghost use Rattle.cny_pack.specs.Gives.{Gains};
 
-use crate::stop::{Halt, Unfit};
+use crate::stop::{Halt, Unfit, halt_of};
 use cny_flow::Sink;
 use std::alloc::Global;
-use tree_disk::TreeDisk;
 use tree_disk::cny_base::Path;
+use tree_disk::{Look, TreeDisk, steps};
 
 // Where so many bytes were read before, whether a piece of this length leaves the file within its size, and another than the last
 // one ends before it.
@@ -22,6 +24,60 @@ fn fits(size: u64, at: u64, count: usize) -> bool
     }
 }
 
+// Reads the next piece of a file.
+fn read_piece<D: TreeDisk>(
+    alloc: Global,
+    disk: &mut D,
+    path: &Path,
+    at: u64,
+    buf: &mut [u8],
+) -> Result<usize, Halt>
+    requires { IsTrue D.disk.tells → IsTrue (is_file_at (D.disk.reads disk.old) path.now) }
+    ensures most { IfOk result (λ count. count ≤ length buf.old) }
+    ensures same { IsTrue D.disk.tells → D.disk.reads disk.new ≡ D.disk.reads disk.old }
+{
+    match steps::read_at(alloc, disk, path, at, buf) {
+        Ok(count) => Ok(count),
+        Err(stop) => Err(halt_of(stop)),
+    }
+}
+
+/// Whether a file of this size stands at the path still: else it has changed since it was looked at.
+pub(crate) fn check_file<D: TreeDisk>(
+    alloc: Global,
+    disk: &mut D,
+    path: &Path,
+    size: u64,
+) -> Result<(), Halt>
+    ensures { IsTrue D.disk.tells → OnOk result (IsTrue (is_file_at (D.disk.reads disk.new) path.now)) }
+{
+    let now = size_now(alloc, disk, path)?;
+    if now != size {
+        return Err(Halt::Unfit(Unfit::Changed));
+    }
+    Ok(())
+}
+
+// The size of the file at a path.
+fn size_now<D: TreeDisk>(alloc: Global, disk: &mut D, path: &Path) -> Result<u64, Halt>
+    ensures { IsTrue D.disk.tells → OnOk result (IsTrue (is_file_at (D.disk.reads disk.new) path.now)) }
+{
+    match steps::look(alloc, disk, path) {
+        Ok(look) => sized(&look),
+        Err(stop) => Err(halt_of(stop)),
+    }
+}
+
+// The size of a file that was seen.
+fn sized(look: &Look) -> Result<u64, Halt>
+    ensures { OnOk result (IsTrue (sees_file look.now)) }
+{
+    match look {
+        Look::File { size, .. } => Ok(*size),
+        _ => Err(Halt::Unfit(Unfit::Changed)),
+    }
+}
+
 // Writes the next piece of a file of this size, and answers how long it is: 0 where the file ends. A file that ends elsewhere has
 // changed since it was looked at.
 fn give_piece<D: TreeDisk, S: Sink>(
@@ -33,11 +89,13 @@ fn give_piece<D: TreeDisk, S: Sink>(
     buf: &mut [u8],
     out: &mut S,
 ) -> Result<usize, Halt>
+    requires { IsTrue D.disk.tells → IsTrue (is_file_at (D.disk.reads disk.old) path.now) }
     ensures given { IfOk result (Gains (S.sink.written out.old) (S.sink.written out.new)) }
     ensures within { IfOk result (λ count. count ≤ size - at) }
     ensures end { IfOk result (λ count. count ≡ 0 → size - at ≡ 0) }
+    ensures same { IsTrue D.disk.tells → D.disk.reads disk.new ≡ D.disk.reads disk.old }
 {
-    let count = disk.read_at(alloc, path, at, buf)?;
+    let count = read_piece(alloc, disk, path, at, buf)?;
     if !fits(size, at, count) {
         return Err(Halt::Unfit(Unfit::Changed));
     }
@@ -46,7 +104,7 @@ fn give_piece<D: TreeDisk, S: Sink>(
 }
 
 /// Writes the content of a file of this size, piece by piece, each at most as long as the buffer: so many bytes, whatever the disk
-/// answers.
+/// answers. A file stands there, where the disk tells its tree.
 pub(crate) fn give_content<D: TreeDisk, S: Sink>(
     alloc: Global,
     disk: &mut D,
@@ -55,6 +113,7 @@ pub(crate) fn give_content<D: TreeDisk, S: Sink>(
     buf: &mut [u8],
     out: &mut S,
 ) -> Result<(), Halt>
+    requires { IsTrue D.disk.tells → IsTrue (is_file_at (D.disk.reads disk.old) path.now) }
     ensures { OnOk result (Gains (S.sink.written out.old) (S.sink.written out.new) size) }
 {
     let mut at = 0;

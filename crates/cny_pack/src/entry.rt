@@ -1,5 +1,5 @@
 //! Entries, with their contents.
-use crate::content::give_content;
+use crate::content::{check_file, give_content};
 use crate::lines::{dir_line, file_line, give_line, link_line, target_line};
 use crate::owners::Owners;
 use crate::stop::{Halt, PackStop, Unfit};
@@ -50,6 +50,7 @@ fn give_file<D: TreeDisk, O: Owners, S: Sink>(
     buf: &mut [u8],
     out: &mut S,
 ) -> Result<(), Halt> {
+    check_file(alloc, disk, path, u64::from(size))?;
     let owner = owner_of(alloc, owners, path)?;
     give_line(out, file_line(alloc, path, mode, &owner, flags, size)?)?;
     give_content(alloc, disk, path, u64::from(size), buf, out)?;

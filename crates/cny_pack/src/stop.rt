@@ -7,7 +7,6 @@ ghost use Rattle.tree_disk.specs.Steps.{IsDiskStop};
 
 use cny_flow::FlowFault;
 use std::alloc::{AllocError, AllocFailed};
-use tree_disk::DiskStop;
 use tree_disk::cny_base::{OutOfMemory, Path, Stop};
 
 /// Which of the words isn't in its grammar, or can't stand in a line.
@@ -123,16 +122,15 @@ impl From<FlowFault> for Halt {
     }
 }
 
-impl From<DiskStop> for Halt {
-    ghost from_gives = { λ stop e. e ≡ spec.halt_of_disk stop };
-
-    // A disk that refuses to read holds no file there any more.
-    fn from(stop: DiskStop) -> Self {
-        match stop {
-            DiskStop::Failed => Halt::DiskFailed,
-            DiskStop::Refused => Halt::Unfit(Unfit::Changed),
-            DiskStop::Memory => Halt::Memory,
-        }
+/// What a step over the disk that stopped makes of an entry.
+pub(crate) fn halt_of(stop: Stop) -> Halt
+    requires { IsDiskStop stop }
+    ensures { result ≡ spec.halt_of_step stop }
+{
+    match stop {
+        Stop::Failed => Halt::DiskFailed,
+        Stop::Memory => Halt::Memory,
+        _ => unreachable!(),
     }
 }
 

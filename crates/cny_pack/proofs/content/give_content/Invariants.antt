@@ -1,4 +1,4 @@
-use Rattle.std.proofs.Common.{◌-◌, ◌≤◌}
+use Rattle.std.proofs.Common.{◌≡◌, ◌-◌, ◌≤◌, IsTrue}
 use Rattle.cny_pack.specs.Gives.{Gains}
 use Rattle.cny_pack.proofs.content.give_content.Given as goal
 
@@ -9,4 +9,5 @@ abbrev pub invariant-pieces : goal.invariant-pieces
 invariant-pieces g l = record {
   given : Gains (g.S.Sink.sink.written l.fn.out) (g.S.Sink.sink.written l.out) l.at;
   within : l.at ≤ l.size;
+  same : IsTrue g.D.TreeDisk.disk.tells → g.D.TreeDisk.disk.reads l.disk ≡ g.D.TreeDisk.disk.reads l.fn.disk;
 }

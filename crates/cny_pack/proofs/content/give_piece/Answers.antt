@@ -3,4 +3,4 @@ use Rattle.cny_pack.proofs.content.give_piece.Goals as goal
 
 pub returns-clause-given : goal.returns-clause-given
 returns-clause-given g c =
-    (take c.in_ok-count.count c.read_at.new.buf, c.in_ok-give.ensures.given, omega (arith, length-take c.in_ok-count.count c.read_at.new.buf, c.in_ok-count.ensures.most, c.read_at.auto.buf))
+    (take c.in_ok-count.count c.read_piece.new.buf, c.in_ok-give.ensures.given, omega (arith, length-take c.in_ok-count.count c.read_piece.new.buf, c.in_ok-count.ensures.most, c.read_piece.auto.buf))
