@@ -18,3 +18,4 @@ pub mod BatchEnds
 pub mod ProgramEnds
 pub mod ProgramWords
 pub use Rattle.cli_call.proofs as cli-call
+pub use Rattle.root_commands.proofs as root-commands

@@ -2,9 +2,9 @@
 use Rattle.std.proofs.Common.{◌≡◌, ◌≤◌, ◌<◌, ◌+◌, ◌++◌, List, [], ◌∷◌, ℕ, length, take, drop, get_or, refl, sym, ap, subst, ◌∙◌, arith}
 use Rattle.std.proofs.lemmas.List.{take_more, take-append-drop, append_assoc}
 use Rattle.trove_spec.specs.declared.given.GivenSpec.{GivenSpec}
-use Rattle.cli_call.specs.cny-base.declared.options.Options.{Options}
 use Rattle.conary_cli.specs.declared.words.Command.{Command}
 use Rattle.conary_cli.specs.declared.words.Command.TheVariants as command
+use Rattle.conary_cli.specs.declared.words.UpdateOptions.{UpdateOptions}
 use Rattle.conary_cli.specs.Words.{AreGivenSpecs, HasNone, IsGiven, IsOnly, IsUpdateWith}
 
 more : (words : List (List ℕ)) (specs : List GivenSpec) (word : List ℕ) (given : GivenSpec) → AreGivenSpecs words specs → IsGiven word given → AreGivenSpecs (words ++ word ∷ []) (specs ++ given ∷ [])
@@ -73,19 +73,19 @@ part_of words i word within here specs are =
 
 -- ---- `update`
 
-pub no_update_of_none : (options : Options) (words : List (List ℕ)) → length words ≡ 0 → HasNone (IsUpdateWith options words)
+pub no_update_of_none : (options : UpdateOptions) (words : List (List ℕ)) → length words ≡ 0 → HasNone (IsUpdateWith options words)
 no_update_of_none options words none = record { none = λ c is. let some : 1 ≤ length words = is.given.some in absurd (omega arith) }
 
-pub no_update_of_many : (options : Options) (words : List (List ℕ)) → 65 ≤ length words → HasNone (IsUpdateWith options words)
+pub no_update_of_many : (options : UpdateOptions) (words : List (List ℕ)) → 65 ≤ length words → HasNone (IsUpdateWith options words)
 no_update_of_many options words many = record { none = λ c is. let few : length words ≤ 64 = is.given.few in absurd (omega arith) }
 
-pub specs_part : (options : Options) (words : List (List ℕ)) (c : Command) → IsUpdateWith options words c → (specs : List GivenSpec) × AreGivenSpecs words specs
+pub specs_part : (options : UpdateOptions) (words : List (List ℕ)) (c : Command) → IsUpdateWith options words c → (specs : List GivenSpec) × AreGivenSpecs words specs
 specs_part options words c is = (is.specs, is.given.given)
 
-same_update : (options : Options) (specs other : List GivenSpec) → specs ≡ other → command.Update specs options ≡ command.Update other options
-same_update options specs other same = ap (λ (l : List GivenSpec). command.Update l options) same
+same_update : (options : UpdateOptions) (specs other : List GivenSpec) → specs ≡ other → command.Update specs options.job options.resolve ≡ command.Update other options.job options.resolve
+same_update options specs other same = ap (λ (l : List GivenSpec). command.Update l options.job options.resolve) same
 
-pub update_only : (options : Options) (words : List (List ℕ)) (specs : List GivenSpec) → 1 ≤ length words → length words ≤ 64 → IsOnly (AreGivenSpecs words) specs → IsOnly (IsUpdateWith options words) (command.Update specs options)
+pub update_only : (options : UpdateOptions) (words : List (List ℕ)) (specs : List GivenSpec) → 1 ≤ length words → length words ≤ 64 → IsOnly (AreGivenSpecs words) specs → IsOnly (IsUpdateWith options words) (command.Update specs options.job options.resolve)
 update_only options words specs some few one = record {
   is = record { specs = specs; is = refl; given = record { some = some; few = few; given = one.is } };
   only = λ c is. same_update options specs is.specs (one.only is.specs is.given.given) ∙ sym is.is;

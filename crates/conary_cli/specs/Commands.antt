@@ -24,6 +24,7 @@ use Rattle.root_commands.specs.Jobs.{list_jobs}
 use Rattle.root_commands.specs.Listing.{list_installed}
 use Rattle.root_commands.specs.LocalChanges.{change_locally}
 use Rattle.root_commands.specs.RollingBack.{roll_back}
+use Rattle.root_commands.specs.Syncing.{sync}
 use Rattle.root_commands.specs.Verifying.{verify_fully, verify_installed}
 use Rattle.repo_commands.specs.Moving.{move}
 use Rattle.conary_cli.specs.declared.words.Command.{Command}
@@ -48,8 +49,9 @@ meaning command.ShowChangeSet = show_change_set
 meaning (command.Cook next) = cook next
 meaning command.Commit = commit
 meaning (command.ListCommitted name) = list_committed name
-meaning (command.Update specs options) = update_specs options specs
+meaning (command.Update specs options resolve) = update_specs options resolve specs
 meaning (command.UpdateByInput options) = update_input options
+meaning (command.Sync options) = sync options
 meaning (command.Erase names replace) = erase names (erasing replace)
 meaning (command.Rollback number) = roll_back number
 meaning (command.ListInstalled name) = list_installed name
@@ -101,8 +103,9 @@ is_of_opened _ = false
 -- the commands that only read the root: all but the jobs and `rollback`
 abbrev pub reads_root : Command → Bool
 reads_root (command.Install options) = false
-reads_root (command.Update specs options) = false
+reads_root (command.Update specs options resolve) = false
 reads_root (command.UpdateByInput options) = false
+reads_root (command.Sync options) = false
 reads_root (command.Erase names replace) = false
 reads_root (command.Rollback number) = false
 reads_root _ = true

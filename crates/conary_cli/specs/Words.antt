@@ -17,6 +17,7 @@ use Rattle.conary_cli.specs.declared.words.Command.{Command}
 use Rattle.conary_cli.specs.declared.words.Command.TheVariants as command
 use Rattle.conary_cli.specs.declared.words.Form.{Form}
 use Rattle.conary_cli.specs.declared.words.Form.TheVariants as form
+use Rattle.conary_cli.specs.declared.words.UpdateOptions.{UpdateOptions}
 
 abbrev pub is_among : List (List ℕ) → List ℕ → Bool
 is_among words word = list_any (bytes_eq word) words
@@ -24,7 +25,7 @@ is_among words word = list_any (bytes_eq word) words
 -- the commands that aren't built yet
 abbrev pub planned_commands : List (List ℕ)
 planned_commands =
-    codes "serve" ∷ codes "mirror" ∷ codes "sync" ∷ []
+    codes "serve" ∷ codes "mirror" ∷ []
 
 unfoldable pub is_planned_command : List ℕ → Bool
 is_planned_command word = is_among planned_commands word
@@ -50,6 +51,25 @@ option_at options (word ∷ words) =
 abbrev pub options_at : List (List ℕ) → Options × List (List ℕ)
 options_at words = let first = option_at no_options words in option_at first.0 first.1
 
+-- no option of `update`
+abbrev pub no_update_options : UpdateOptions
+no_update_options = record { job = no_options; resolve = false }
+
+-- With the first of the words, where it is an option of `update` that wasn't given before; and the words that are left.
+abbrev pub update_option_at : UpdateOptions → List (List ℕ) → UpdateOptions × List (List ℕ)
+update_option_at options [] = (options, [])
+update_option_at options (word ∷ words) =
+    if bytes_eq word (codes "--resolve") && not options.resolve then (record { job = options.job; resolve = true }, words)
+    else let read = option_at options.job (word ∷ words) in (record { job = read.0; resolve = options.resolve }, read.1)
+
+-- The options of `update` at the front of the words, and the words that are left: each at most once, in any order, so three words at
+-- most.
+abbrev pub update_options_at : List (List ℕ) → UpdateOptions × List (List ℕ)
+update_options_at words =
+    let first = update_option_at no_update_options words in
+    let second = update_option_at first.0 first.1 in
+    update_option_at second.0 second.1
+
 -- ---- the commands that take no specification
 
 -- behind the options of `install` nothing stands
@@ -60,6 +80,15 @@ install_with options (word ∷ words) = Err failure.Usage
 -- `install`, with its options directly behind it
 abbrev pub install_of : List (List ℕ) → Result Command Failure
 install_of words = let read = options_at words in install_with read.0 read.1
+
+-- behind the options of `sync` nothing stands
+abbrev pub sync_with : Options → List (List ℕ) → Result Command Failure
+sync_with options [] = Ok (command.Sync options)
+sync_with options (word ∷ words) = Err failure.Usage
+
+-- `sync`, with its options directly behind it
+abbrev pub sync_of : List (List ℕ) → Result Command Failure
+sync_of words = let read = options_at words in sync_with read.0 read.1
 
 -- each word is a name, and they aren't more than a command takes
 abbrev pub are_names : List (List ℕ) → Bool
@@ -154,37 +183,52 @@ is_input [] = false
 is_input (word ∷ []) = bytes_eq word (codes "-")
 is_input (word ∷ other ∷ words) = false
 
--- the first of the words is the option of `update` that isn't built yet
-abbrev pub is_resolve : List (List ℕ) → Bool
-is_resolve [] = false
-is_resolve (word ∷ words) = bytes_eq word (codes "--resolve")
-
--- behind the options of `update` where no specifications are read: an input, or the option that isn't built yet, whatever follows it
-abbrev pub update_with : Options → List (List ℕ) → Result Command Failure
-update_with options words = if is_input words then Ok (command.UpdateByInput options) else if is_resolve words then Err (not_built (codes "--resolve")) else Err failure.Usage
+-- behind the options of `update` where no specifications are read: an input, which doesn't complete itself
+abbrev pub update_with : UpdateOptions → List (List ℕ) → Result Command Failure
+update_with options words = if is_input words && not options.resolve then Ok (command.UpdateByInput options.job) else Err failure.Usage
 
 -- `update` where no specifications are read; of specifications it is another form
 unfoldable pub update_of : List (List ℕ) → Result Command Failure
-update_of words = let read = options_at words in update_with read.0 read.1
+update_of words = let read = update_options_at words in update_with read.0 read.1
+
+-- ---- all of these, by the first word
+
+-- a word that is no command: it isn't built yet, or it is usage
+unfoldable pub other_of : List ℕ → Result Command Failure
+other_of word = if is_planned_command word then Err (not_built word) else Err failure.Usage
+
+-- the commands of the repository, and the one that reads neither disk
+unfoldable pub repository_of : List ℕ → List (List ℕ) → Result Command Failure
+repository_of word words =
+    if bytes_eq word (codes "showcs") then show_of words
+    else if bytes_eq word (codes "cook") then cook_of words
+    else if bytes_eq word (codes "commit") then commit_words words
+    else if bytes_eq word (codes "rq") then list_of words
+    else other_of word
+
+-- those that only read the root
+unfoldable pub reading_of : List ℕ → List (List ℕ) → Result Command Failure
+reading_of word words =
+    if bytes_eq word (codes "q") then installed_of words
+    else if bytes_eq word (codes "verify") then verify_of words
+    else if bytes_eq word (codes "rblist") then jobs_of words
+    else if bytes_eq word (codes "localcs") then local_of words
+    else repository_of word words
+
+-- those that change it
+unfoldable pub changing_of : List ℕ → List (List ℕ) → Result Command Failure
+changing_of word words =
+    if bytes_eq word (codes "install") then install_of words
+    else if bytes_eq word (codes "erase") then erase_of words
+    else if bytes_eq word (codes "rollback") then rollback_of words
+    else if bytes_eq word (codes "update") then update_of words
+    else if bytes_eq word (codes "sync") then sync_of words
+    else reading_of word words
 
 -- The command that words are which hold no specification. The first word alone decides whether it isn't built yet; all else is usage.
 abbrev pub command_of : List (List ℕ) → Result Command Failure
 command_of [] = Err failure.Usage
-command_of (word ∷ words) =
-    if bytes_eq word (codes "install") then install_of words
-    else if bytes_eq word (codes "showcs") then show_of words
-    else if bytes_eq word (codes "cook") then cook_of words
-    else if bytes_eq word (codes "commit") then commit_words words
-    else if bytes_eq word (codes "rq") then list_of words
-    else if bytes_eq word (codes "erase") then erase_of words
-    else if bytes_eq word (codes "rollback") then rollback_of words
-    else if bytes_eq word (codes "q") then installed_of words
-    else if bytes_eq word (codes "verify") then verify_of words
-    else if bytes_eq word (codes "rblist") then jobs_of words
-    else if bytes_eq word (codes "localcs") then local_of words
-    else if bytes_eq word (codes "update") then update_of words
-    else if is_planned_command word then Err (not_built word)
-    else Err failure.Usage
+command_of (word ∷ words) = changing_of word words
 
 -- ---- the commands that take specifications
 
@@ -241,14 +285,14 @@ pub record AreSomeGiven (words : List (List ℕ)) (specs : List GivenSpec) : Typ
   pub given : AreGivenSpecs words specs
 
 -- such words behind these options make this command
-pub record IsUpdateWith (options : Options) (words : List (List ℕ)) (c : Command) : Type 0 where
+pub record IsUpdateWith (options : UpdateOptions) (words : List (List ℕ)) (c : Command) : Type 0 where
   pub specs : List GivenSpec
-  pub is : c ≡ command.Update specs options
+  pub is : c ≡ command.Update specs options.job options.resolve
   pub given : AreSomeGiven words specs
 
 -- such words behind `update` make this command
 abbrev pub IsUpdate : List (List ℕ) → Command → Type 0
-IsUpdate words c = let read = options_at words in IsUpdateWith read.0 read.1 c
+IsUpdate words c = let read = update_options_at words in IsUpdateWith read.0 read.1 c
 
 -- there is none of these
 pub record HasNone {A : Type 0} (Is : A → Type 0) : Type 0 where
@@ -263,7 +307,7 @@ IsOrUsage Is (Err e) = (e ≡ failure.Usage) × HasNone Is
 
 -- what stands behind `update`: specifications, or something else
 abbrev pub update_form : List (List ℕ) → Form
-update_form words = let read = options_at words in if is_input read.1 then form.Others else if is_resolve read.1 then form.Others else form.Updates
+update_form words = let read = update_options_at words in if is_input read.1 then form.Others else form.Updates
 
 -- what the first word says of the words behind it
 abbrev pub form_of_words : List (List ℕ) → Form

@@ -14,7 +14,7 @@ use repo_commands::{
 };
 use root_commands::{
     change_locally, erase_troves, install_manifest, list_installed, list_jobs, roll_back,
-    update_input, update_specs, verify_fully, verify_installed,
+    sync_to_model, update_input, update_specs, verify_fully, verify_installed,
 };
 use std::alloc::Global;
 
@@ -30,6 +30,7 @@ pub fn takes_input(command: &Command) -> bool
         Command::ListCommitted { .. } => false,
         Command::Update { .. } => false,
         Command::UpdateByInput { .. } => true,
+        Command::Sync { .. } => false,
         Command::Erase { .. } => false,
         Command::Rollback { .. } => false,
         Command::ListInstalled { .. } => false,
@@ -112,12 +113,15 @@ pub fn perform<T: TreeDisk, P: TreeDisk>(
         Command::ListCommitted { name } => {
             as_bytes(list_committed(alloc, name, opened, repo, root))
         }
-        Command::Update { specs, options } => {
-            as_bytes(update_specs(alloc, options, specs.get(), opened, repo, root))
-        }
+        Command::Update {
+            specs,
+            options,
+            resolve,
+        } => { as_bytes(update_specs(alloc, options, *resolve, specs.get(), opened, repo, root)) }
         Command::UpdateByInput { options } => {
             as_bytes(update_input(alloc, options, input, opened, repo, root))
         }
+        Command::Sync { options } => { as_bytes(sync_to_model(alloc, options, opened, repo, root)) }
         Command::Erase { names, replace } => {
             as_bytes(erase_troves(alloc, names.get(), &erasing(*replace), opened, repo, root))
         }

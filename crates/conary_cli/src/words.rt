@@ -6,7 +6,7 @@ ghost use Rattle.cli_call.specs.cny-base.declared.text.TextFault.TheVariants as 
 ghost use Rattle.trove_spec.specs.Spec.{IsSpecText};
 ghost use Rattle.cli_call.specs.cny-laws.declared.failure.Failure.{Failure};
 ghost use Rattle.conary_cli.specs.declared.words.Command.{Command};
-ghost use Rattle.conary_cli.specs.Words.{AreGivenSpecs, AreSomething, AreWords, is_input, is_resolve, IsUpdate, IsUpdateWith, update_form, update_of, update_with, behind, form_of_words, IsGiven, IsLabelWord, IsMove, IsSend, is_short_word, are_names, is_planned_command, job_number, erase_of, erase_with, installed_of, jobs_of, local_of, verify_with, option_at, options_at, rollback_of, verify_of, command_of, commit_words, cook_of, install_of, list_of, show_of, OrMemory, ReadsOnly, ReadsWords, not_built};
+ghost use Rattle.conary_cli.specs.Words.{AreGivenSpecs, AreSomething, AreWords, is_input, IsUpdate, IsUpdateWith, update_form, update_of, update_option_at, update_options_at, update_with, behind, form_of_words, IsGiven, IsLabelWord, IsMove, IsSend, is_short_word, are_names, is_planned_command, job_number, erase_of, erase_with, installed_of, jobs_of, local_of, verify_with, option_at, options_at, rollback_of, verify_of, changing_of, command_of, other_of, reading_of, repository_of, commit_words, cook_of, install_of, list_of, show_of, sync_of, OrMemory, ReadsOnly, ReadsWords, not_built};
 
 use cli_call::Failure;
 use cli_call::cny_base::{ListOf, Name, Options, Refusal, Text, TextFault, read_decimal};
@@ -45,13 +45,18 @@ pub enum Command {
     ListCommitted {
         name: Option<Name>,
     },
-    /// Installs what specifications mean and reach.
+    /// Installs what specifications mean and reach, or what completes them too.
     Update {
         specs: SpecList,
         options: Options,
+        resolve: bool,
     },
     /// Installs the troves of a change set.
     UpdateByInput {
+        options: Options,
+    },
+    /// Brings the installed troves to what the model file says.
+    Sync {
         options: Options,
     },
     /// Takes the troves of these names away, also where their paths were edited or only where they weren't.
@@ -91,6 +96,15 @@ pub enum Command {
     },
 }
 
+// The options of `update`.
+#[derive(Clone, Copy)]
+struct UpdateOptions {
+    // Those of a job.
+    job: Options,
+    // Whether the update is to complete itself.
+    resolve: bool,
+}
+
 // The words that stand behind the first one.
 #[derive(Clone, Copy)]
 enum Form {
@@ -109,7 +123,7 @@ enum Form {
 fn is_planned(word: &str) -> bool
     ensures { result ≡ is_planned_command word.now }
 {
-    matches!(word, "serve" | "mirror" | "sync")
+    matches!(word, "serve" | "mirror")
 }
 
 // The refusal of a word that isn't built yet.
@@ -177,36 +191,74 @@ fn is_input(words: &[String]) -> bool
     rest.is_empty() && word.as_str() == "-"
 }
 
-// Whether the first of the words is the option of `update` that isn't built yet.
-fn is_resolve(words: &[String]) -> bool
-    ensures { result ≡ is_resolve (map string_bytes words.now) }
+// With the first of the words, where it is an option of `update` that wasn't given before; and the words that are left.
+fn update_option_at(options: UpdateOptions, words: &[String]) -> (UpdateOptions, &[String])
+    ensures { (result.0, map string_bytes result.1.now) ≡ update_option_at options (map string_bytes words.now) }
 {
-    let [word, ..] = words else {
-        return false;
+    let [word, rest @ ..] = words else {
+        return (options, words);
     };
-    word.as_str() == "--resolve"
+    if word.as_str() == "--resolve" && !options.resolve {
+        let options = UpdateOptions {
+            job: options.job,
+            resolve: true,
+        };
+        return (options, rest);
+    }
+    let (job, rest) = option_at(options.job, words);
+    let options = UpdateOptions {
+        job,
+        resolve: options.resolve,
+    };
+    (options, rest)
+}
+
+// The options of `update` at the front of the words, and the words that are left.
+fn update_options_at(words: &[String]) -> (UpdateOptions, &[String])
+    ensures { (result.0, map string_bytes result.1.now) ≡ update_options_at (map string_bytes words.now) }
+{
+    let none = UpdateOptions {
+        job: Options {
+            replace: false,
+            keep: false,
+        },
+        resolve: false,
+    };
+    let (options, rest) = update_option_at(none, words);
+    let (options, rest) = update_option_at(options, rest);
+    update_option_at(options, rest)
 }
 
 // The words after the options of `update`, where these are no specifications.
-fn read_update_with(alloc: Global, options: Options, words: &[String]) -> Result<Command, Failure>
+fn read_update_with(options: UpdateOptions, words: &[String]) -> Result<Command, Failure>
     ensures { ReadsWords (update_with options (map string_bytes words.now)) result }
 {
-    if is_input(words) {
-        return Ok(Command::UpdateByInput { options });
-    }
-    if is_resolve(words) {
-        return not_built_yet(alloc, "--resolve");
+    if is_input(words) && !options.resolve {
+        return Ok(Command::UpdateByInput {
+            options: options.job,
+        });
     }
     Err(Failure::Usage)
 }
 
 // The words after `update`, where these are no specifications.
 #[tactic(auto, unfolding(crate::specs::Words::update_of))]
-fn read_update_by_input(alloc: Global, words: &[String]) -> Result<Command, Failure>
+fn read_update_by_input(words: &[String]) -> Result<Command, Failure>
     ensures { ReadsWords (update_of (map string_bytes words.now)) result }
 {
+    let (options, rest) = update_options_at(words);
+    read_update_with(options, rest)
+}
+
+// The words after `sync`.
+fn read_sync(words: &[String]) -> Result<Command, Failure>
+    ensures { ReadsWords (sync_of (map string_bytes words.now)) result }
+{
     let (options, rest) = options_at(words);
-    read_update_with(alloc, options, rest)
+    if rest.is_empty() {
+        return Ok(Command::Sync { options });
+    }
+    Err(Failure::Usage)
 }
 
 // The names that the words are, in their order. `Bad` exactly where they are too many, or one of them isn't a name.
@@ -528,7 +580,7 @@ fn read_specs(alloc: Global, words: &[String]) -> Result<SpecList, Failure>
 }
 
 // The words after the options of `update`.
-fn read_updates(alloc: Global, options: Options, words: &[String]) -> Result<Command, Failure>
+fn read_updates(alloc: Global, options: UpdateOptions, words: &[String]) -> Result<Command, Failure>
     ensures { ReadsOnly (IsUpdateWith options (map string_bytes words.now)) result }
 {
     if words.is_empty() {
@@ -538,15 +590,93 @@ fn read_updates(alloc: Global, options: Options, words: &[String]) -> Result<Com
         return Err(Failure::Usage);
     }
     let specs = read_specs(alloc, words)?;
-    Ok(Command::Update { specs, options })
+    Ok(Command::Update {
+        specs,
+        options: options.job,
+        resolve: options.resolve,
+    })
 }
 
 // The words after `update`, where these are specifications.
 fn read_update(alloc: Global, words: &[String]) -> Result<Command, Failure>
     ensures { ReadsOnly (IsUpdate (map string_bytes words.now)) result }
 {
-    let (options, rest) = options_at(words);
+    let (options, rest) = update_options_at(words);
     read_updates(alloc, options, rest)
+}
+
+// A word that is no command.
+#[tactic(auto, unfolding(crate::specs::Words::other_of))]
+fn read_other(alloc: Global, word: &str) -> Result<Command, Failure>
+    ensures { ReadsWords (other_of word.now) result }
+{
+    if is_planned(word) {
+        return not_built_yet(alloc, word);
+    }
+    Err(Failure::Usage)
+}
+
+// The commands of the repository, and the one that reads neither disk.
+#[tactic(auto, unfolding(crate::specs::Words::repository_of))]
+fn read_of_repository(alloc: Global, word: &str, rest: &[String]) -> Result<Command, Failure>
+    ensures { ReadsWords (repository_of word.now (map string_bytes rest.now)) result }
+{
+    if word == "showcs" {
+        return read_show(rest);
+    }
+    if word == "cook" {
+        return read_cook(rest);
+    }
+    if word == "commit" {
+        return read_commit(rest);
+    }
+    if word == "rq" {
+        return read_list(alloc, rest);
+    }
+    read_other(alloc, word)
+}
+
+// The commands that only read the root.
+#[tactic(auto, unfolding(crate::specs::Words::reading_of))]
+fn read_reading(alloc: Global, word: &str, rest: &[String]) -> Result<Command, Failure>
+    ensures { ReadsWords (reading_of word.now (map string_bytes rest.now)) result }
+{
+    if word == "q" {
+        return read_installed(alloc, rest);
+    }
+    if word == "verify" {
+        return read_verify(alloc, rest);
+    }
+    if word == "rblist" {
+        return read_jobs(rest);
+    }
+    if word == "localcs" {
+        return read_local(alloc, rest);
+    }
+    read_of_repository(alloc, word, rest)
+}
+
+// The commands that change the root.
+#[tactic(auto, unfolding(crate::specs::Words::changing_of))]
+fn read_changing(alloc: Global, word: &str, rest: &[String]) -> Result<Command, Failure>
+    ensures { ReadsWords (changing_of word.now (map string_bytes rest.now)) result }
+{
+    if word == "install" {
+        return read_install(rest);
+    }
+    if word == "erase" {
+        return read_erase(alloc, rest);
+    }
+    if word == "rollback" {
+        return read_rollback(rest);
+    }
+    if word == "update" {
+        return read_update_by_input(rest);
+    }
+    if word == "sync" {
+        return read_sync(rest);
+    }
+    read_reading(alloc, word, rest)
 }
 
 // The command that words are which hold no specification.
@@ -556,54 +686,15 @@ fn read_others(alloc: Global, words: &[String]) -> Result<Command, Failure>
     let [word, rest @ ..] = words else {
         return Err(Failure::Usage);
     };
-    if word.as_str() == "install" {
-        return read_install(rest);
-    }
-    if word.as_str() == "showcs" {
-        return read_show(rest);
-    }
-    if word.as_str() == "cook" {
-        return read_cook(rest);
-    }
-    if word.as_str() == "commit" {
-        return read_commit(rest);
-    }
-    if word.as_str() == "rq" {
-        return read_list(alloc, rest);
-    }
-    if word.as_str() == "erase" {
-        return read_erase(alloc, rest);
-    }
-    if word.as_str() == "rollback" {
-        return read_rollback(rest);
-    }
-    if word.as_str() == "q" {
-        return read_installed(alloc, rest);
-    }
-    if word.as_str() == "verify" {
-        return read_verify(alloc, rest);
-    }
-    if word.as_str() == "rblist" {
-        return read_jobs(rest);
-    }
-    if word.as_str() == "localcs" {
-        return read_local(alloc, rest);
-    }
-    if word.as_str() == "update" {
-        return read_update_by_input(alloc, rest);
-    }
-    if is_planned(word.as_str()) {
-        return not_built_yet(alloc, word.as_str());
-    }
-    Err(Failure::Usage)
+    read_changing(alloc, word.as_str(), rest)
 }
 
 // What stands behind `update`: specifications, or something else.
 fn update_form(words: &[String]) -> Form
     ensures { result ≡ update_form (map string_bytes words.now) }
 {
-    let (_, rest) = options_at(words);
-    if is_input(rest) || is_resolve(rest) {
+    let (_, rest) = update_options_at(words);
+    if is_input(rest) {
         return Form::Others;
     }
     Form::Updates

@@ -46,7 +46,7 @@ pub returns-in-Update-clause-performs : goal.returns-in-Update-clause-performs
 returns-in-Update-clause-performs g c =
     let old = disks c.args.root.now c.args.repo.now c.args.opened.now in
     let new = disks c.update_specs.new.root c.update_specs.new.repo c.update_specs.new.opened in
-    let by_specs = subst (λ given. Performs g.T.TreeDisk.disk g.P.TreeDisk.disk (update_specs c.in-Update.options given) c.args.input.now old new c.update_specs.result) c.get.ensures (c.update_specs.ensures.performs c.args.input.now) in
+    let by_specs = subst (λ given. Performs g.T.TreeDisk.disk g.P.TreeDisk.disk (update_specs c.in-Update.options c.in-Update.resolve given) c.args.input.now old new c.update_specs.result) c.get.ensures (c.update_specs.ensures.performs c.args.input.now) in
     performs_as _ _ c.args.input.now old new c.update_specs.result _ c.in-Update.is c.as_bytes-in-Update.ensures
     (on_both g.met.T.TreeDisk.laws g.met.P.TreeDisk.laws c.args.input.now old new c.update_specs.result _ refl refl refl refl (never _ refl) (never _ refl) by_specs (never _ refl) (λ is. c.update_specs.ensures.repo_read) (λ path none. none) (λ path none. none))
 
@@ -56,6 +56,13 @@ returns-in-UpdateByInput-clause-performs g c =
     let new = disks c.update_input.new.root c.update_input.new.repo c.update_input.new.opened in
     performs_as _ _ c.args.input.now old new c.update_input.result _ c.in-UpdateByInput.is c.as_bytes-in-UpdateByInput.ensures
     (on_both g.met.T.TreeDisk.laws g.met.P.TreeDisk.laws c.args.input.now old new c.update_input.result _ refl refl refl refl (never _ refl) (never _ refl) c.update_input.ensures.performs (never _ refl) (λ is. c.update_input.ensures.repo_read) (λ path none. none) (λ path none. none))
+
+pub returns-in-Sync-clause-performs : goal.returns-in-Sync-clause-performs
+returns-in-Sync-clause-performs g c =
+    let old = disks c.args.root.now c.args.repo.now c.args.opened.now in
+    let new = disks c.sync_to_model.new.root c.sync_to_model.new.repo c.sync_to_model.new.opened in
+    performs_as _ _ c.args.input.now old new c.sync_to_model.result _ c.in-Sync.is c.as_bytes-in-Sync.ensures
+    (on_both g.met.T.TreeDisk.laws g.met.P.TreeDisk.laws c.args.input.now old new c.sync_to_model.result _ refl refl refl refl (never _ refl) (never _ refl) (c.sync_to_model.ensures.performs c.args.input.now) (never _ refl) (λ is. c.sync_to_model.ensures.repo_read) (λ path none. none) (λ path none. none))
 
 pub returns-in-Erase-clause-performs : goal.returns-in-Erase-clause-performs
 returns-in-Erase-clause-performs g c =
@@ -140,6 +147,9 @@ returns-in-Update-clause-again g c = again_as (AreReady g.T.TreeDisk.disk g.P.Tr
 
 pub returns-in-UpdateByInput-clause-again : goal.returns-in-UpdateByInput-clause-again
 returns-in-UpdateByInput-clause-again g c = again_as (AreReady g.T.TreeDisk.disk g.P.TreeDisk.disk (disks c.update_input.new.root c.update_input.new.repo c.update_input.new.opened)) c.update_input.result c.as_bytes-in-UpdateByInput.result c.as_bytes-in-UpdateByInput.ensures c.update_input.ensures.again
+
+pub returns-in-Sync-clause-again : goal.returns-in-Sync-clause-again
+returns-in-Sync-clause-again g c = again_as (AreReady g.T.TreeDisk.disk g.P.TreeDisk.disk (disks c.sync_to_model.new.root c.sync_to_model.new.repo c.sync_to_model.new.opened)) c.sync_to_model.result c.as_bytes-in-Sync.result c.as_bytes-in-Sync.ensures c.sync_to_model.ensures.again
 
 pub returns-in-Erase-clause-again : goal.returns-in-Erase-clause-again
 returns-in-Erase-clause-again g c = again_as (AreReady g.T.TreeDisk.disk g.P.TreeDisk.disk (disks c.erase_troves.new.root c.args.repo.now c.erase_troves.new.opened)) c.erase_troves.result c.as_bytes-in-Erase.result c.as_bytes-in-Erase.ensures c.erase_troves.ensures.again
