@@ -37,9 +37,8 @@ def word_cases(script):
             script.disks(NO_VAR, (), 1, 1).input(b"x", 1, 1).sinks(1, 0)
             words = TABLE.lines(row.split())
             script.run(*words)
-            planned = b"--resolve" if words[0] == b"update" else words[0]
             some.name = "words"
-            some.compare(row, (1, b"", b"conary: not built %s\n" % planned) if topic == "planned" else (2, b"", program.USAGE))
+            some.compare(row, (1, b"", b"conary: not built %s\n" % words[0]) if topic == "planned" else (2, b"", program.USAGE))
     # The longest name and the longest specification are words; the most words of a call, and one more.
     for words in ([b"q", b"n" * 255], [b"update", LONG_SPEC.encode()], [b"update", LONGER_SPEC.encode()]):
         script.disks().run(*words)

@@ -6,7 +6,7 @@ the root a command makes, and in which order, is told here, for the lines `from`
 """
 import re
 
-from tools.model import lists, plans, program, repository, stacks
+from tools.model import completion, lists, plans, program, repository, stacks
 from tools.model.local_changes import LONGEST, local_changes, local_id, reached
 from tools.model.program import JOURNAL, Ended, is_spec, manifest_of
 from tools.model.records import (
@@ -19,18 +19,19 @@ from tools.model.streams import NotOfForm, different_bytes, is_label, is_name, r
 from tools.model.trees import Damaged, Refused, clear, is_of, make_dir, parent_of, read_whole
 
 PIECE, MOST_BYTES = 65_536, stacks.LIMIT[2]
+MODEL, LARGEST_MODEL = b"/etc/conary/system-model", 65_536
 
 # ---- the words
 
-PLANNED_COMMANDS = b"serve mirror sync".split()
-PLANNED_OPTIONS = {b"update": (b"--resolve",)}
+PLANNED_COMMANDS = b"serve mirror".split()
 
 # A command takes at most so many names or specifications.
 MOST_NAMES = 64
 
+RESOLVE = b"--resolve"
 OPTIONS = {
-    b"cook": (b"--next",), b"install": (b"--replace", b"--keep"), b"update": (b"--replace", b"--keep"), b"erase": (b"--replace",),
-    b"verify": (b"--full",),
+    b"cook": (b"--next",), b"install": (b"--replace", b"--keep"), b"update": (b"--replace", b"--keep", RESOLVE), b"sync": (b"--replace", b"--keep"),
+    b"erase": (b"--replace",), b"verify": (b"--full",),
 }  # fmt: skip
 
 
@@ -44,16 +45,18 @@ def job_number(word):
 WORDS = {
     b"rq": (0, 1, is_name), b"q": (0, 1, is_name), b"rollback": (0, 1, job_number), b"localcs": (1, 1, is_name),
     b"changeset": (1, 2, is_spec), b"erase": (1, MOST_NAMES, is_name), b"verify": (0, MOST_NAMES, is_name),
-    b"update": (1, MOST_NAMES, is_spec), **dict.fromkeys(b"install cook commit showcs rblist".split(), (0, 0, None)),
+    b"update": (1, MOST_NAMES, is_spec), **dict.fromkeys(b"install cook commit showcs rblist sync".split(), (0, 0, None)),
 }
 
 
-def are_words_of(command, rest):
+def are_words_of(command, options, rest):
     """Whether these words may stand behind the command and its options."""
     if command in (b"shadow", b"branch"):
         return len(rest) == 2 and is_label(rest[0]) and is_spec(rest[1])
+    if (command, rest) == (b"update", [b"-"]):
+        return RESOLVE not in options
     least, most, is_word = WORDS.get(command, (1, 0, None))
-    return (command, rest) == (b"update", [b"-"]) or least <= len(rest) <= most and all(map(is_word, rest))
+    return least <= len(rest) <= most and all(map(is_word, rest))
 
 
 def command_of(words):
@@ -63,15 +66,13 @@ def command_of(words):
     command, rest = words[0], list(words[1:])
     if command in PLANNED_COMMANDS:
         raise Refused(b"not built " + command)
-    planned, options = PLANNED_OPTIONS.get(command, ()), []
-    while rest and rest[0] in OPTIONS.get(command, ()) + planned:
-        if rest[0] in planned:
-            raise Refused(b"not built " + rest[0])
+    options = []
+    while rest and rest[0] in OPTIONS.get(command, ()):
         if rest[0] in options:
             raise Ended(2, b"")
         options.append(rest.pop(0))
     short = len(words) <= program.MOST_WORDS and all(len(word) <= program.LONGEST_WORD for word in words)
-    if not short or not are_words_of(command, rest):
+    if not short or not are_words_of(command, options, rest):
         raise Ended(2, b"")
     return command, options, rest
 
@@ -123,7 +124,7 @@ class Plan:
     """What a job makes of the paths that it changes, by the tests of the lists and of the tree, in the order of the calls."""
 
     def __init__(self, tree, before, after, options):
-        self.tree, self.options = tree, [option.removeprefix(b"--").decode() for option in options]
+        self.tree, self.options = tree, [option.removeprefix(b"--").decode() for option in options if option != RESOLVE]
         self.old, self.fresh = ({trove.identity.name: dict(trove.files) for trove in troves} for troves in (before, after))
         self.nodes = dict(tree.nodes)
         plans.check_owned(self.fresh)
@@ -275,6 +276,7 @@ class Call(program.Call):
             b"commit": lambda: self.committed(read_set(data)),
             b"install": lambda: self.install(data, options),
             b"update": lambda: self.update(rest, options) if data is None else self.update_to(data, options),
+            b"sync": lambda: self.sync(options),
             b"erase": lambda: Job(self, [], False).made(lists.erased(self.db.troves, rest), options),
             b"rollback": lambda: self.roll_back(job_number(rest[0]) if rest else self.db.newest),
             b"rblist": self.jobs,
@@ -298,7 +300,22 @@ class Call(program.Call):
     def update(self, specs, options):
         config = self.config()
         roots = [repository.resolve(self.catalogue, repository.spec_of(text), config) for text in specs]
-        return self.job_with(repository.expand(self.catalogue, *roots), [], True, options)
+        completes = RESOLVE in options
+        come = completion.completed(self.catalogue, self.db.troves, roots, config) if completes else repository.expand(self.catalogue, *roots)
+        return self.job_with(come, [], True, options)
+
+    def sync(self, options):
+        config = self.config()
+        return Job(self, [], True).made(completion.wanted(self.catalogue, self.model(), config), options)
+
+    def model(self):
+        """What the root's model file says."""
+        stands = self.root.look(MODEL)
+        if not is_of(stands, "file"):
+            raise Refused(b"no model")
+        if len(stands[2]) > LARGEST_MODEL:
+            raise Refused(b"too large: model %d" % len(stands[2]))
+        return completion.read_model(read_whole(self.root, MODEL))
 
     def update_to(self, data, options):
         change = read_set(data)
