@@ -10,6 +10,8 @@ pub mod LocalSets
 pub mod Requirements
 pub mod Targets
 pub mod JobOutcomes
+pub mod Completions
+pub mod Models
 pub mod Updates
 pub mod Rollbacks
 pub mod Descriptions
@@ -24,6 +26,7 @@ pub mod Counted
 pub mod CountedLines
 pub mod OneSpec
 pub mod OneWords
+pub mod SyncStays
 pub mod OnDisks
 pub mod OpenedStates
 pub mod MadeEvents

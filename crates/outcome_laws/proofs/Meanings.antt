@@ -67,12 +67,12 @@ module _ (troves : List TroveParts) (config : Config) where
 -- ---- what is reached
 
 module _ (one : OneExpansion) (troves : List TroveParts) (roots : List TroveId) where
-  two_of_name : (found : List TroveParts) (r : Refusal) → IsExpansion troves roots found → first_of_same_name found ≡ None → IsOfOneName troves roots r → ⊥
+  pub two_of_name : (found : List TroveParts) (r : Refusal) → IsExpansion troves roots found → first_of_same_name found ≡ None → IsOfOneName troves roots r → ⊥
   two_of_name found r is none h =
       let same : found ≡ h.found = one troves roots found h.found is h.expansion in
       absurd (cc (sym none ∙ ap first_of_same_name same ∙ h.first))
 
-  one_name : AtMostOne (IsOfOneName troves roots)
+  pub one_name : AtMostOne (IsOfOneName troves roots)
   one_name p q h g =
       let same : h.found ≡ g.found = one troves roots h.found g.found h.expansion g.expansion in
       let id : h.id ≡ g.id = cc (sym h.first ∙ ap first_of_same_name same ∙ g.first) in

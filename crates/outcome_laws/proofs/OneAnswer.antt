@@ -28,6 +28,7 @@ use Rattle.conary_cli.specs.root-commands.Jobs.{list_jobs}
 use Rattle.conary_cli.specs.root-commands.Listing.{list_installed}
 use Rattle.conary_cli.specs.root-commands.LocalChanges.{change_locally}
 use Rattle.conary_cli.specs.root-commands.RollingBack.{roll_back}
+use Rattle.conary_cli.specs.root-commands.Syncing.{sync}
 use Rattle.conary_cli.specs.root-commands.Update.{update_input}
 use Rattle.conary_cli.specs.root-commands.UpdateSpecs.{update_specs}
 use Rattle.conary_cli.specs.root-commands.Verifying.{verify_fully, verify_installed}
@@ -54,8 +55,9 @@ pub record CommandLaws : Type 0 where
   pub cook : (next : Bool) → HasOneOutcome (cook next)
   pub commit : HasOneOutcome commit
   pub list_committed : (name : Option (List ℕ)) → HasOneOutcome (list_committed name)
-  pub update : (options : Options) (givens : List GivenSpec) → HasOneOutcome (update_specs options givens)
+  pub update : (options : Options) (resolve : Bool) (givens : List GivenSpec) → HasOneOutcome (update_specs options resolve givens)
   pub update_input : (options : Options) → HasOneOutcome (update_input options)
+  pub sync : (options : Options) → HasOneOutcome (sync options)
   pub erase : (names : List (List ℕ)) (options : Options) → HasOneOutcome (erase names options)
   pub roll_back : (number : Option ℕ) → HasOneOutcome (roll_back number)
   pub list_installed : (name : Option (List ℕ)) → HasOneOutcome (list_installed name)
@@ -72,8 +74,9 @@ each_once laws command.ShowChangeSet = laws.show
 each_once laws (command.Cook next) = laws.cook next
 each_once laws command.Commit = laws.commit
 each_once laws (command.ListCommitted name) = laws.list_committed name
-each_once laws (command.Update specs options) = laws.update options specs
+each_once laws (command.Update specs options resolve) = laws.update options resolve specs
 each_once laws (command.UpdateByInput options) = laws.update_input options
+each_once laws (command.Sync options) = laws.sync options
 each_once laws (command.Erase names replace) = laws.erase names (erasing replace)
 each_once laws (command.Rollback number) = laws.roll_back number
 each_once laws (command.ListInstalled name) = laws.list_installed name

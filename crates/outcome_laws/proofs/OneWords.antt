@@ -11,8 +11,7 @@ use Rattle.conary_cli.specs.cli-call.cny-laws.declared.failure.Failure.{Failure}
 use Rattle.conary_cli.specs.declared.words.Command.{Command}
 use Rattle.conary_cli.specs.declared.words.Command.TheVariants as command
 use Rattle.conary_cli.specs.Calls.{as_call, batch_of, demo_of, AreCall, AreOfKind, IsSingle}
-use Rattle.conary_cli.specs.Words.{is_input, is_resolve, options_at, AreGivenSpecs, AreLabelAndSpec, AreOfForm, AreSpecs, AreWords, IsGiven, IsMove, IsOrUsage, IsSend, IsUpdate, IsUpdateWith}
-use Rattle.conary_cli.specs.cli-call.cny-base.declared.options.Options.{Options}
+use Rattle.conary_cli.specs.Words.{is_input, update_options_at, AreGivenSpecs, AreLabelAndSpec, AreOfForm, AreSpecs, AreWords, IsGiven, IsMove, IsOrUsage, IsSend, IsUpdate}
 use Rattle.outcome_laws.specs.OneOutcome.{AtMostOne}
 use Rattle.outcome_laws.proofs.OneSpec.{spec_once}
 
@@ -79,11 +78,10 @@ module _ (one_label : OneLabel) where
       let rest = all_given_once words as' bs h.1 g.1 in
       λ i. first i ∷ rest i
 
-  updates_once : (options : Options) (words : List (List ℕ)) → AtMostOne (IsUpdateWith options words)
-  updates_once options words a b h g = h.is ∙ ap (λ (x : List GivenSpec). command.Update x options) (all_given_once words h.specs g.specs h.given.given g.given.given) ∙ sym g.is
-
   update_once : (words : List (List ℕ)) → AtMostOne (IsUpdate words)
-  update_once words = updates_once (options_at words).0 (options_at words).1
+  update_once words a b h g =
+      let options = (update_options_at words).0 in
+      h.is ∙ ap (λ (x : List GivenSpec). command.Update x options.job options.resolve) (all_given_once (update_options_at words).1 h.specs g.specs h.given.given g.given.given) ∙ sym g.is
 
   -- ---- all words
 
@@ -115,11 +113,9 @@ module _ (one_label : OneLabel) where
       (λ nor. split_if (λ k. AreOfForm k (word ∷ words) a × AreOfForm k (word ∷ words) b) (bytes_eq word (codes "branch")) nor
       (λ moves. moves_once way.Branch words a b moves.0 moves.1)
       (λ not. split_if (λ k. AreOfForm k (word ∷ words) a × AreOfForm k (word ∷ words) b) (bytes_eq word (codes "update")) not
-      (λ updates. split_if (λ k. AreOfForm k (word ∷ words) a × AreOfForm k (word ∷ words) b) (is_input (options_at words).1) updates
+      (λ updates. split_if (λ k. AreOfForm k (word ∷ words) a × AreOfForm k (word ∷ words) b) (is_input (update_options_at words).1) updates
       (λ input. input.0 ∙ sym input.1)
-      (λ specs. split_if (λ k. AreOfForm k (word ∷ words) a × AreOfForm k (word ∷ words) b) (is_resolve (options_at words).1) specs
-      (λ resolve. resolve.0 ∙ sym resolve.1)
-      (λ given. or_usage_once (IsUpdate words) (update_once words) a b given.0 given.1)))
+      (λ given. or_usage_once (IsUpdate words) (update_once words) a b given.0 given.1))
       (λ others. others.0 ∙ sym others.1))))
 
   single_once : (words : List (List ℕ)) → AtMostOne (IsSingle words)

@@ -28,7 +28,7 @@ module _ (list : List TroveParts) where
   requirement_before required a b h g less =
       h.unmet (All-contains (IsMet list) (take g.number required) a g.met (contains_at (take g.number required) h.number a (take_get g.number h.number required less ∙ h.there)))
 
-  first_once : (required : List Dependency) (a b : Dependency) → IsFirstOf list required a → IsFirstOf list required b → a ≡ b
+  pub first_once : (required : List Dependency) (a b : Dependency) → IsFirstOf list required a → IsFirstOf list required b → a ≡ b
   first_once required a b h g = same_Some a b (sym h.there ∙ ap (slice_get required) number ∙ g.there)
     where
       number : h.number ≡ g.number
@@ -37,7 +37,7 @@ module _ (list : List TroveParts) where
           (λ most. ⊎_elim (λ less. absurd (requirement_before required b a g h less)) (λ also. omega (arith, most, also)) (cases_lt g.number h.number))
           (cases_lt h.number g.number)
 
-  trove_once : (t v : TroveParts) (require other : Dependency) → IsFirstUnmet list t require → IsFirstUnmet list v other → t ≡ v
+  pub trove_once : (t v : TroveParts) (require other : Dependency) → IsFirstUnmet list t require → IsFirstUnmet list v other → t ≡ v
   trove_once t v require other u w = same_Some t v (sym u.there ∙ ap (slice_get list) place ∙ w.there)
     where
       place : u.place ≡ w.place

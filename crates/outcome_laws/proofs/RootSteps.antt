@@ -14,7 +14,7 @@ use Rattle.conary_cli.specs.cli-call.cny-laws.State.{nothing, Change, Effect, Me
 use Rattle.conary_cli.specs.cli-call.cny-laws.WholeCall.{Outcome}
 use Rattle.conary_cli.specs.cli-call.system-core.FixedDirs.{fixed_dirs}
 use Rattle.conary_cli.specs.cli-call.system-core.Job.{no_answers, sources_of, Sources}
-use Rattle.conary_cli.specs.cli-call.system-core.Lists.{ListStep, to_erased, to_updated}
+use Rattle.conary_cli.specs.cli-call.system-core.Lists.{ListStep, to_erased, to_list, to_updated}
 use Rattle.conary_cli.specs.cli-call.ManifestInput.{OfManifest}
 use Rattle.conary_cli.specs.cli-call.SetInput.{OfChangeSet}
 use Rattle.cny_manifest.specs.declared.made.Made.{Made}
@@ -27,6 +27,9 @@ use Rattle.trove_spec.specs.declared.given.GivenSpec.{GivenSpec}
 use Rattle.trove_spec.specs.AndThen.{AndThen}
 use Rattle.trove_spec.specs.Meant.{Expands, ExpandsFrom, Means}
 use Rattle.trove_spec.specs.RootConfig.{HasConfig}
+use Rattle.sys_model.specs.declared.model.Model.{Model}
+use Rattle.sys_model.specs.RootModel.{HasModel}
+use Rattle.sys_model.specs.Wanted.{Wants}
 use Rattle.conary_cli.specs.repo-commands.Commit.{commit, Commits}
 use Rattle.conary_cli.specs.repo-commands.Cook.{cook, cooked_set, Cooks, CommitsSet}
 use Rattle.conary_cli.specs.repo-commands.Listing as committed
@@ -40,8 +43,9 @@ use Rattle.conary_cli.specs.root-commands.Jobs.{list_jobs, ListsJobs}
 use Rattle.conary_cli.specs.root-commands.Listing as installed
 use Rattle.conary_cli.specs.root-commands.LocalChanges as local
 use Rattle.conary_cli.specs.root-commands.RollingBack.{meant_number, roll_back, TakesBackTo}
+use Rattle.conary_cli.specs.root-commands.Syncing.{sync, AdoptsList, AdoptsWanted, SyncsWith}
 use Rattle.conary_cli.specs.root-commands.Update.{answers_of, update_input, Comes, UpdatesBy, UpdatesTo}
-use Rattle.conary_cli.specs.root-commands.UpdateSpecs.{update_specs, MeanAll, ReachAll}
+use Rattle.conary_cli.specs.root-commands.UpdateSpecs.{update_specs, BringAll, MeanAll}
 use Rattle.conary_cli.specs.root-commands.Verifying.{no_contents, verify_fully, verify_installed, VerifiesWith}
 use Rattle.outcome_laws.specs.RootSteps.{StepsRoot}
 
@@ -136,14 +140,21 @@ update_input_steps options = shared_step (update_input options) (λ s bytes o h.
     (λ set p g. and_then_step s (Comes s.root.installed set.parts) (λ (troves : List TroveParts). UpdatesTo options set.contents troves s)
     (λ troves q i. update_step s options set.contents troves q i) p g) o h)
 
-pub update_specs_steps : (options : Options) (givens : List GivenSpec) → EachSteps (update_specs options givens)
-update_specs_steps options givens = shared_step (update_specs options givens) (λ s bytes o h.
+pub update_specs_steps : (options : Options) (resolve : Bool) (givens : List GivenSpec) → EachSteps (update_specs options resolve givens)
+update_specs_steps options resolve givens = shared_step (update_specs options resolve givens) (λ s bytes o h.
     and_then_step s (HasConfig (tree_of s.root))
-    (λ (config : Config). AndThen (MeanAll (troves_of s.repository.commits) config givens) (λ (ids : List TroveId). AndThen (ReachAll (troves_of s.repository.commits) ids) (λ (troves : List TroveParts). UpdatesTo options [] troves s)))
+    (λ (config : Config). AndThen (MeanAll (troves_of s.repository.commits) config givens) (λ (ids : List TroveId). AndThen (BringAll resolve (troves_of s.repository.commits) s.root.installed config ids) (λ (troves : List TroveParts). UpdatesTo options [] troves s)))
     (λ config p g. and_then_step s (MeanAll (troves_of s.repository.commits) config givens)
-    (λ (ids : List TroveId). AndThen (ReachAll (troves_of s.repository.commits) ids) (λ (troves : List TroveParts). UpdatesTo options [] troves s))
-    (λ ids q i. and_then_step s (ReachAll (troves_of s.repository.commits) ids) (λ (troves : List TroveParts). UpdatesTo options [] troves s)
+    (λ (ids : List TroveId). AndThen (BringAll resolve (troves_of s.repository.commits) s.root.installed config ids) (λ (troves : List TroveParts). UpdatesTo options [] troves s))
+    (λ ids q i. and_then_step s (BringAll resolve (troves_of s.repository.commits) s.root.installed config ids) (λ (troves : List TroveParts). UpdatesTo options [] troves s)
     (λ troves t j. update_step s options [] troves t j) q i) p g) o h)
+
+pub sync_steps : (options : Options) → EachSteps (sync options)
+sync_steps options = shared_step (sync options) (λ s bytes o h.
+    and_then_step s (HasConfig (tree_of s.root)) (λ (config : Config). SyncsWith options config s)
+    (λ config p g. and_then_step s (HasModel (tree_of s.root)) (λ (model : Model). AdoptsWanted options config model s)
+    (λ model q i. and_then_step s (Wants (troves_of s.repository.commits) config model.lines) (λ (list : List TroveParts). AdoptsList options list s)
+    (λ list t j. job_step s (sources_of [] (answers_of s.repository.contents) options) (to_list list) t j) q i) p g) o h)
 
 pub roll_back_steps : (number : Option ℕ) → EachSteps (roll_back number)
 roll_back_steps number = shared_step (roll_back number) (λ s bytes o h. back_step s (meant_number number s.root) o h)

@@ -16,7 +16,7 @@ use Rattle.outcome_laws.specs.RootSteps.{HasSoundLists, IsRootStep, StepsRoot}
 use Rattle.outcome_laws.specs.Machine.{answer_of, Answer, AnswersBy, AnswersLine}
 use Rattle.outcome_laws.specs.Histories.{called, crashed, altered, AfterCall, AfterEdit, AfterLines, Event, Folds, OfEdits}
 use Rattle.outcome_laws.proofs.OneAnswer.{unshown_own}
-use Rattle.outcome_laws.proofs.RootSteps.{commit_steps, cook_steps, erase_steps, install_steps, list_committed_steps, list_installed_steps, list_jobs_steps, local_steps, move_steps, roll_back_steps, send_steps, show_steps, update_input_steps, update_specs_steps, verify_fully_steps, verify_steps, EachSteps}
+use Rattle.outcome_laws.proofs.RootSteps.{commit_steps, cook_steps, erase_steps, install_steps, list_committed_steps, list_installed_steps, list_jobs_steps, local_steps, move_steps, roll_back_steps, send_steps, show_steps, sync_steps, update_input_steps, update_specs_steps, verify_fully_steps, verify_steps, EachSteps}
 use Rattle.outcome_laws.proofs.SinceJobs.{edit_stands, follows_first, follows_last, follows_on, stands_first, stands_last, stands_on, Follows, Stands}
 use Rattle.outcome_laws.proofs.SoundLists.{sound_on}
 
@@ -28,8 +28,9 @@ each_steps command.ShowChangeSet = show_steps
 each_steps (command.Cook next) = cook_steps next
 each_steps command.Commit = commit_steps
 each_steps (command.ListCommitted name) = list_committed_steps name
-each_steps (command.Update specs options) = update_specs_steps options specs
+each_steps (command.Update specs options resolve) = update_specs_steps options resolve specs
 each_steps (command.UpdateByInput options) = update_input_steps options
+each_steps (command.Sync options) = sync_steps options
 each_steps (command.Erase names replace) = erase_steps names (erasing replace)
 each_steps (command.Rollback number) = roll_back_steps number
 each_steps (command.ListInstalled name) = list_installed_steps name

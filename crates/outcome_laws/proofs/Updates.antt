@@ -1,5 +1,5 @@
--- `install`, `update` and `erase` have one outcome.
-use Rattle.std.proofs.Common.{◌≡◌, ◌<◌, ◌≤◌, ⊎_elim, ℕ, List, [], ◌∷◌, ◌++◌, take, slice_get, Contains, Option, Some, None, Ok, Err, refl, sym, ap, ◌∙◌, subst, arith}
+-- `install`, `update`, `sync` and `erase` have one outcome.
+use Rattle.std.proofs.Common.{◌≡◌, ◌<◌, ◌≤◌, ⊎_elim, ℕ, Bool, List, [], ◌∷◌, ◌++◌, take, slice_get, Contains, Option, Some, None, Ok, Err, refl, sym, ap, ◌∙◌, subst, arith}
 use Rattle.std.proofs.lemmas.Bool.{cases_lt}
 use Rattle.std.proofs.lemmas.List.{length-take}
 use Rattle.std.proofs.lemmas.Option.{same_Some}
@@ -14,12 +14,15 @@ use Rattle.conary_cli.specs.cli-call.change-set.declared.change.ChangeSet.{Chang
 use Rattle.conary_cli.specs.cli-call.change-set.declared.change.Part.{Part}
 use Rattle.local_db.specs.SystemState.{IsSystemState}
 use Rattle.conary_cli.specs.cli-call.system-core.Job.{no_answers, sources_of}
-use Rattle.conary_cli.specs.cli-call.system-core.Lists.{to_erased, to_updated}
+use Rattle.conary_cli.specs.cli-call.system-core.Lists.{to_erased, to_list, to_updated}
 use Rattle.conary_cli.specs.cli-call.cny-laws.State.{RootState, State, tree_of}
 use Rattle.cny_manifest.specs.declared.made.Made.{Made}
 use Rattle.repo_load.specs.State.{troves_of}
 use Rattle.trove_spec.specs.declared.config.Config.{Config}
 use Rattle.trove_spec.specs.RootConfig.{HasConfig}
+use Rattle.sys_model.specs.declared.model.Model.{Model}
+use Rattle.sys_model.specs.RootModel.{HasModel}
+use Rattle.sys_model.specs.Wanted.{Wants}
 use Rattle.trove_spec.proofs.OneConfig.{OneLabel}
 use Rattle.update_job.specs.Lists.{IsSecond, IsUpdated}
 use Rattle.update_job.specs.Made.{AreMade, IsFirstRefused}
@@ -31,13 +34,16 @@ use Rattle.trove_spec.specs.Meant.{Means}
 use Rattle.conary_cli.specs.root-commands.Erase.{erase}
 use Rattle.conary_cli.specs.root-commands.Install.{first_reserved, install, InstallsMade, UnlessReserved}
 use Rattle.conary_cli.specs.root-commands.Update.{answers_of, update_input, Comes, UpdatesBy, UpdatesTo}
-use Rattle.conary_cli.specs.root-commands.UpdateSpecs.{update_specs, AreMeant, IsFirstUnmeant, MeanAll, ReachAll}
+use Rattle.conary_cli.specs.root-commands.Syncing.{sync, AdoptsList, AdoptsWanted, SyncsWith}
+use Rattle.conary_cli.specs.root-commands.UpdateSpecs.{update_specs, AreMeant, BringAll, IsFirstUnmeant, MeanAll}
 use Rattle.outcome_laws.specs.OneOutcome.{AtMostOne, HasOneOutcome, IsState}
 use Rattle.outcome_laws.proofs.Configurations.{configured_once}
 use Rattle.outcome_laws.proofs.JobOutcomes.{PlanLaws, StepLaws, job_once}
 use Rattle.outcome_laws.proofs.Jobs.{erased_once, updated_once}
 use Rattle.outcome_laws.proofs.Listings.{missing_once, never_missing, take_get}
-use Rattle.outcome_laws.proofs.Meanings.{means_once, reach_once}
+use Rattle.outcome_laws.proofs.Meanings.{means_once}
+use Rattle.outcome_laws.proofs.Completions.{bring_once}
+use Rattle.outcome_laws.proofs.Models.{modelled_once, wants_once}
 use Rattle.repo_shadow.proofs.OneMove.{OneExpansion}
 use Rattle.outcome_laws.proofs.Splits.{Cuts, same, earlier, later, cuts}
 use Rattle.outcome_laws.proofs.Tests.{with_shared, and_then_once, SetLaws, set_once, ManifestLaws, manifest_once}
@@ -173,14 +179,30 @@ module _ (plans : PlanLaws) where
     mean_all_once givens (Err p) (Ok b) h g = absurd (never_unmeant h.front h.given h.behind b p (subst (λ (l : List GivenSpec). AreMeant troves config l b) h.is g) h.refuses)
     mean_all_once givens (Err p) (Err q) h g = let is = unmeant_once givens p q h g in λ i. Err (is i)
 
-  pub update_specs_once : OneLabel → OneExpansion → (options : Options) (givens : List GivenSpec) → HasOneOutcome (update_specs options givens)
-  update_specs_once one_label one_expansion options givens = with_shared (update_specs options givens) (λ s input state.
+  pub update_specs_once : OneLabel → OneExpansion → (options : Options) (resolve : Bool) (givens : List GivenSpec) → HasOneOutcome (update_specs options resolve givens)
+  update_specs_once one_label one_expansion options resolve givens = with_shared (update_specs options resolve givens) (λ s input state.
       and_then_once (HasConfig (tree_of s.root))
-      (λ (config : Config). AndThen (MeanAll (troves_of s.repository.commits) config givens) (λ (ids : List TroveId). AndThen (ReachAll (troves_of s.repository.commits) ids) (λ (troves : List TroveParts). UpdatesTo options [] troves s)))
+      (λ (config : Config). AndThen (MeanAll (troves_of s.repository.commits) config givens) (λ (ids : List TroveId). AndThen (BringAll resolve (troves_of s.repository.commits) s.root.installed config ids) (λ (troves : List TroveParts). UpdatesTo options [] troves s)))
       (configured_once one_label (tree_of s.root))
       (λ config. and_then_once (MeanAll (troves_of s.repository.commits) config givens)
-      (λ (ids : List TroveId). AndThen (ReachAll (troves_of s.repository.commits) ids) (λ (troves : List TroveParts). UpdatesTo options [] troves s))
+      (λ (ids : List TroveId). AndThen (BringAll resolve (troves_of s.repository.commits) s.root.installed config ids) (λ (troves : List TroveParts). UpdatesTo options [] troves s))
       (mean_all_once (troves_of s.repository.commits) config givens)
-      (λ ids. and_then_once (ReachAll (troves_of s.repository.commits) ids) (λ (troves : List TroveParts). UpdatesTo options [] troves s)
-      (reach_once one_expansion (troves_of s.repository.commits) ids)
+      (λ ids. and_then_once (BringAll resolve (troves_of s.repository.commits) s.root.installed config ids) (λ (troves : List TroveParts). UpdatesTo options [] troves s)
+      (bring_once one_expansion (troves_of s.repository.commits) s.root.installed config resolve ids)
       (λ troves. updates_to_once options [] troves s state))))
+
+  -- ---- `sync`
+
+  adopts_once : (options : Options) (list : List TroveParts) (s : State) → IsState s → AtMostOne (AdoptsList options list s)
+  adopts_once options list s state = job_once plans (sources_of [] (answers_of s.repository.contents) options) (λ name a b h g. h ∙ sym g) s.root state.root
+      (to_list list) (record { leads = λ a b h g. h ∙ sym g; refuses = λ a b h g. absurd h; apart = λ new why h g. g })
+
+  pub sync_once : OneLabel → OneExpansion → (options : Options) → HasOneOutcome (sync options)
+  sync_once one_label one_expansion options = with_shared (sync options) (λ s input state.
+      and_then_once (HasConfig (tree_of s.root)) (λ (config : Config). SyncsWith options config s)
+      (configured_once one_label (tree_of s.root))
+      (λ config. and_then_once (HasModel (tree_of s.root)) (λ (model : Model). AdoptsWanted options config model s)
+      (modelled_once one_label (tree_of s.root))
+      (λ model. and_then_once (Wants (troves_of s.repository.commits) config model.lines) (λ (list : List TroveParts). AdoptsList options list s)
+      (wants_once one_expansion (troves_of s.repository.commits) config model.lines)
+      (λ list. adopts_once options list s state))))

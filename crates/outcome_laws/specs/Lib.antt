@@ -7,3 +7,4 @@ pub mod Images
 pub mod OnDisks
 pub mod Play
 pub mod Played
+pub mod Syncs

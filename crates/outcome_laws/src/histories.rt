@@ -26,7 +26,7 @@ ghost use Rattle.outcome_laws.specs.Histories.{AfterCall, AfterLines, Answered, 
 use crate::outcomes::{
     one_commit, one_cook, one_description, one_erasure, one_installation, one_list_committed,
     one_list_installed, one_list_jobs, one_local_change, one_moving, one_rollback, one_sending,
-    one_update, one_update_by_input, one_verification,
+    one_sync, one_update, one_update_by_input, one_verification,
 };
 use cny_version::distinct_texts;
 use conary_cli::cny_batch::one_batch;
@@ -42,6 +42,7 @@ pub fn one_outcome()
     one_list_committed();
     one_update();
     one_update_by_input();
+    one_sync();
     one_erasure();
     one_rollback();
     one_list_installed();

@@ -1,5 +1,5 @@
 //! Laws of what the commands mean: that a command has at most one outcome on a state and an input, and what holds of whole histories of
-//! calls, edits and crashes. They are functions that do nothing, whose clauses are the laws.
+//! calls, edits and crashes. They are functions that do nothing, whose clauses are the laws; `play` makes a history on two disks in memory.
 //!
 //! Begin with `specs/Machine` (what a call means, without disks and faults) and `specs/Histories` (events, and their fold).
 #![tactic(auto)]
@@ -9,6 +9,7 @@ mod images;
 mod opened;
 mod outcomes;
 mod playing;
+mod syncs;
 
 pub use conary_cli;
 pub use histories::{
@@ -19,6 +20,7 @@ pub use opened::opened_states;
 pub use outcomes::{
     one_commit, one_cook, one_description, one_erasure, one_installation, one_list_committed,
     one_list_installed, one_list_jobs, one_local_change, one_moving, one_rollback, one_sending,
-    one_update, one_update_by_input, one_verification, stored_states,
+    one_sync, one_update, one_update_by_input, one_verification, stored_states,
 };
 pub use playing::{Event, play};
+pub use syncs::synced_roots;

@@ -20,6 +20,7 @@ ghost use Rattle.conary_cli.specs.root-commands.Jobs.{list_jobs};
 ghost use Rattle.conary_cli.specs.root-commands.Listing.{list_installed};
 ghost use Rattle.conary_cli.specs.root-commands.LocalChanges.{change_locally};
 ghost use Rattle.conary_cli.specs.root-commands.RollingBack.{roll_back};
+ghost use Rattle.conary_cli.specs.root-commands.Syncing.{sync};
 ghost use Rattle.conary_cli.specs.root-commands.Update.{update_input};
 ghost use Rattle.conary_cli.specs.root-commands.UpdateSpecs.{update_specs};
 ghost use Rattle.conary_cli.specs.root-commands.Verifying.{verify_fully, verify_installed};
@@ -139,9 +140,18 @@ pub fn one_update_by_input()
     one_plan();
 }
 
-/// `update` of specifications.
+/// `update` of specifications, also where it completes itself.
 pub fn one_update()
-    ensures { (options : Options) (givens : List GivenSpec) → HasOneOutcome (update_specs options givens) }
+    ensures { (options : Options) (resolve : Bool) (givens : List GivenSpec) → HasOneOutcome (update_specs options resolve givens) }
+{
+    distinct_texts();
+    one_expansion();
+    one_plan();
+}
+
+/// `sync`.
+pub fn one_sync()
+    ensures { (options : Options) → HasOneOutcome (sync options) }
 {
     distinct_texts();
     one_expansion();

@@ -10,6 +10,7 @@ returns c = each_once (record {
   list_committed = c.one_list_committed.ensures;
   update = c.one_update.ensures;
   update_input = c.one_update_by_input.ensures;
+  sync = c.one_sync.ensures;
   erase = c.one_erasure.ensures;
   roll_back = c.one_rollback.ensures;
   list_installed = c.one_list_installed.ensures;
