@@ -43,6 +43,7 @@ offers "" --disk "$room/root" "$room/repo" --
 offers "--replace --keep" install ""
 offers "--keep" install --replace ""
 offers "--replace" install --keep --r
+offers "--keep" sync --replace ""
 offers "--replace --keep" update --
 offers "" update foo --
 offers "--replace" erase -
