@@ -44,7 +44,8 @@ offers "--replace --keep" install ""
 offers "--keep" install --replace ""
 offers "--replace" install --keep --r
 offers "--keep" sync --replace ""
-offers "--replace --keep" update --
+offers "--replace --keep --resolve" update --
+offers "--replace --resolve" update --re
 offers "" update foo --
 offers "--replace" erase -
 offers "--full" --disk "$room/root" "$room/repo" verify -
