@@ -8,6 +8,7 @@ set -eu
 top=$(CDPATH='' cd "$(dirname "$(readlink -f "$0")")/../.." && pwd)
 . "$top/tools/program.sh"
 choose_shown
+manifest_program=${MANIFEST:-$(program_crate=conary_manifest && unset CONARY && . "$top/tools/program.sh" && choose_shown && echo "$program")}
 if [ $# -eq 0 ]; then
     work=$(mktemp -d)
     trap 'rm -rf "$work"' EXIT
@@ -49,11 +50,11 @@ put() {
     chmod "$2" "$work/packages/$1$3"
 }
 
-# The manifest of a package's directory: manifest NAME REVISION [LINE]. The line says what it requires.
+# The manifest of a package's directory: manifest NAME REVISION [OPTION...].
 manifest() {
     name=$1 revision=$2
     shift 2
-    "$top/examples/manifest.sh" "$name" "/$label/$revision" "$work/packages/$name" "$@"
+    "$manifest_program" --config '/etc/*' "$@" package "$name" "/$label/$revision" "$work/packages/$name"
 }
 
 # The manifest of the group of the three packages: group REVISION BASE SERVER SITE, each a revision.
@@ -82,7 +83,7 @@ ln -s index.html "$work/packages/site/srv/www/home.html"
 say 'Three packages and a group are cooked by one batch, and the group is installed.'
 {
     manifest base 1.0-1-1 | line cook
-    manifest server 1.0-1-1 'requires server:runtime trove: base:runtime' | line cook
+    manifest server 1.0-1-1 --requires server:runtime 'trove: base:runtime' | line cook
     manifest site 1.0-1-1 | line cook
     group 1.0-1-1 1.0-1-1 1.0-1-1 1.0-1-1 | line cook
 } >"$work/first.batch"
@@ -94,7 +95,7 @@ say 'The next revision of the site and of the server, and the group with them.'
 printf '<p>It works, and it is new.\n' | put site 0644 /srv/www/index.html
 printf '8443\n' | put server 0644 /etc/server.conf
 {
-    manifest server 1.0-2-1 'requires server:runtime trove: base:runtime' | line cook
+    manifest server 1.0-2-1 --requires server:runtime 'trove: base:runtime' | line cook
     manifest site 1.0-2-1 | line cook
     group 1.0-2-1 1.0-1-1 1.0-2-1 1.0-2-1 | line cook
 } >"$work/second.batch"

@@ -4,6 +4,7 @@
 set -u
 cd "$(dirname "$0")/../.." || exit 1
 . share/bash-completion/conary
+. share/bash-completion/conary-manifest
 room=$(mktemp -d) || exit 1
 trap 'rm -rf "$room"' EXIT
 mkdir -p "$room/root/var/lib/conarydb/s.2" "$room/repo"
@@ -11,12 +12,12 @@ touch "$room/root/var/lib/conarydb/r.1" "$room/root/var/lib/conarydb/r.2" "$room
 asked=0
 wrong=0
 
-# What is offered for the last of these words.
+# What is offered for the last of these words, behind a program.
 offered() {
-    COMP_WORDS=(conary "$@")
+    COMP_WORDS=("$program" "$@")
     COMP_CWORD=$#
     COMPREPLY=()
-    _conary
+    "_${program//-/_}"
     echo "${COMPREPLY[*]}"
 }
 
@@ -27,10 +28,11 @@ offers() {
     found=$(offered "$@")
     asked=$((asked + 1))
     [ "$found" = "$wanted" ] && return
-    echo "conary $*: offered \`$found', and not \`$wanted'"
+    echo "$program $*: offered \`$found', and not \`$wanted'"
     wrong=1
 }
 
+program=conary
 offers "install" i
 offers "rollback rblist rq" r
 offers "cook commit" co
@@ -63,6 +65,15 @@ found=$(offered "" | tr ' ' '\n' | grep -v '^--' | sort)
     echo "the commands that are offered aren't those of ./conary --help"
     wrong=1
 }
+program=conary-manifest
+offers "--skip --flavor --config --requires --provides component package" ""
+offers "--requires" --skip --r
+offers "component" --flavor ssl c
+offers "package" --requires a:b "trove: c" p
+offers "" --flavor s
+offers "" package foo
+offers "$room/root $room/repo" package foo /h@n:t/1-1-1 "$room/r"
+
 [ "$(complete -p conary ./conary 2>/dev/null | wc -l)" = 2 ] || {
     echo "conary isn't completed"
     wrong=1

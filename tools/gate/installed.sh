@@ -15,9 +15,11 @@ fail() {
 
 ./install.sh "$@" "$room/there" >/dev/null || fail "it installs nothing"
 found=$(cd "$room/there" && find . ! -type d | sort | tr '\n' ' ')
-wanted='./bin/conary ./share/bash-completion/completions/conary ./share/man/man1/conary.1 '
+wanted='./bin/conary ./bin/conary-manifest ./share/bash-completion/completions/conary ./share/bash-completion/completions/conary-manifest ./share/man/man1/conary-manifest.1 ./share/man/man1/conary.1 '
 [ "$found" = "$wanted" ] || fail "there is $found"
 [ "$("$room/there/bin/conary" demo 1 2>/dev/null)" = 'verified 54 paths, 0 changed' ] || fail "what it installed answers otherwise"
+mkdir "$room/empty"
+[ "$("$room/there/bin/conary-manifest" component a:b /h@n:t/1-1-1 "$room/empty" 2>/dev/null | tail -n 1)" = end ] || fail "what it installed answers otherwise"
 
 mkdir "$room/bare"
 cp -r install.sh tools docs share "$room/bare"

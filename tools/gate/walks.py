@@ -17,7 +17,7 @@ import tempfile
 
 DOCUMENTS = ("README.md", "docs/TUTORIAL.md", "docs/COMMANDS.md")
 BEGIN, MARK = "    $ ", "end of command"
-NOTICE = re.compile(r"^conary: (this build has|building).*\n", re.MULTILINE)
+NOTICE = re.compile(r"^conary(-manifest)?: (this build has|building).*\n", re.MULTILINE)
 
 
 def commands_of(text):

@@ -74,7 +74,7 @@ class Tried:
         """Cooks all packages and their group by one batch."""
         version, text, begun = f"/{LABEL}/1.0-{revision}-1", b"", time.monotonic()
         for name in self.packages:
-            text += self.line(run([self.writer, name, version, self.laid / name])[0])
+            text += self.line(run([self.writer, "package", name, version, self.laid / name])[0])
         made = time.monotonic() - begun
         refs = "".join(f"ref {name}={version}\n" for name in self.packages)
         text += self.line(f"manifest 1\ngroup group-archive\nversion {version}\n{refs}end\n".encode())

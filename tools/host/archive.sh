@@ -3,7 +3,7 @@
 # all by one batch, installs them as a group, verifies, updates them to a second revision, and takes that back. Behind each step the tree is
 # compared with what was unpacked, byte for byte and mode for mode. Ends with 1 where something differs, and says so where there is no archive.
 # Usage: tools/host/archive.sh [PACKAGES [SEED]]
-# It needs dpkg, and root's privileges for modes that lock the owner out. CONARY may name another program than the proved one of this copy.
+# It needs dpkg, and root's privileges for modes that lock the owner out. CONARY and MANIFEST may name other programs than the proved ones of this copy.
 set -eu
 top=$(CDPATH='' cd "$(dirname "$0")/../.." && pwd)
 . "$top/tools/program.sh"
@@ -13,4 +13,9 @@ if ! command -v dpkg >/dev/null 2>&1 || [ -z "$(find "$archive" -name '*.deb' -p
     exit 0
 fi
 choose_program
-exec python3 "$top/tools/host/archive.py" "$program" "${1:-50}" "$archive" "$top/examples/manifest.sh" ${2:+"$2"}
+conary=$program
+program_crate=conary_manifest
+. "$top/tools/program.sh"
+CONARY=${MANIFEST:-}
+choose_program
+exec python3 "$top/tools/host/archive.py" "$conary" "${1:-50}" "$archive" "$program" ${2:+"$2"}
