@@ -1,6 +1,6 @@
 //! A directory's tree as a manifest, written to a sink in pieces, with no file whole in memory. The walk over the tree finds each path at
-//! which something stands and nothing else, the lines of entries are those of a manifest's spelling, and of a file just as many bytes
-//! are written as its line says, or an error is answered.
+//! which something stands and nothing else, the lines of entries are those of a manifest's spelling, and of a content just as many bytes
+//! are written as are asked for, or an error is answered; that the whole is the manifest of the tree is tested.
 #![tactic(auto)]
 
 mod content;

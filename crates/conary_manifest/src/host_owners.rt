@@ -77,7 +77,7 @@ fn word_of(alloc: Global, names: &Names, number: u32) -> Result<String, OutOfMem
     }
 }
 
-// The owner of these numbers; by the numbers alone where a name is no word of at most 32 bytes.
+// The owner of these numbers, by the name of each or else by the number; none where a name is no word of at most 32 bytes.
 fn owner_of(
     alloc: Global,
     users: &Names,
