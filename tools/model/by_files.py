@@ -10,7 +10,7 @@ from tools.model import completion, lists, plans, program, repository, stacks
 from tools.model.local_changes import LONGEST, local_changes, local_id, reached
 from tools.model.program import JOURNAL, Ended, is_spec, manifest_of
 from tools.model.records import (
-    BASE, DATABASE, EMPTY, GREATEST_NUMBER, MOST_JOBS, NOTHING, Db, by_name, content_path, database_bytes, mark_of, mark_of_record,
+    BASE, DATABASE, DATABASE_MAGIC, EMPTY, GREATEST_NUMBER, MOST_JOBS, NOTHING, Db, by_name, content_path, database_bytes, mark_of, mark_of_record,
     read_database, record_bytes, record_of, record_path, saved_path,
 )
 from tools.model.relatives import all_made, check_allowed
@@ -104,8 +104,12 @@ def write_all(tree, puts):
 
 def open_database(tree):
     """The database, once a root of format 1 was brought to format 2."""
-    if tree.look(DATABASE) is not None:
-        read_file(tree, DATABASE)
+    node = tree.look(DATABASE)
+    if is_of(node, "file"):
+        # Its first bytes tell the format, and one that isn't of format 2 is read whole.
+        tree.read_at(DATABASE)
+        if not node[2].startswith(DATABASE_MAGIC[2]):
+            read_whole(tree, DATABASE)
     puts = stacks.migrated(tree.nodes)
     if puts is not None:
         for path in sorted(puts.keys() - {DATABASE}, key=lambda path: -int(path.rpartition(b".")[2])):

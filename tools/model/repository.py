@@ -14,6 +14,8 @@ BASE = b"/conaryrepo"
 CONTENTS = BASE + b"/c"
 JOURNAL = Journal(BASE)
 MAGIC = b"CNYKM01\n"
+# A larger file of a commit is read only where it begins as one.
+LARGE = 1_048_576
 
 
 def commit_path(number):
@@ -38,10 +40,15 @@ def sizes_in(troves, name):
 def read_troves(tree, number):
     """The troves of a commit's file; none where nothing stands at its name."""
     path = commit_path(number)
-    if not is_of(tree.look(path), "file"):
-        if tree.look(path) is None:
-            return None
+    node = tree.look(path)
+    if node is None:
+        return None
+    if not is_of(node, "file"):
         raise Damaged(path)
+    if len(node[2]) > LARGE:
+        tree.read_at(path)
+        if not node[2].startswith(MAGIC):
+            raise Damaged(path)
     text = read_whole(tree, path)
     try:
         need(text.startswith(MAGIC))
@@ -87,13 +94,15 @@ def load(tree):
     return found
 
 
-def content(tree, sizes, name):
-    """The content of a name that is recorded with one of these sizes."""
+def content(tree, sizes, name, is_sound=True):
+    """The content of a name that is recorded with these sizes."""
     path = content_path(name)
-    if not is_of(tree.look(path), "file"):
+    node = tree.look(path)
+    # One of another size isn't read.
+    if not is_of(node, "file") or len(node[2]) not in sizes:
         raise Damaged(path)
     data = read_whole(tree, path)
-    if sha(data) != name or len(data) not in sizes:
+    if sha(data) != name or not is_sound:
         raise Damaged(path)
     return data
 
@@ -225,7 +234,7 @@ def between(tree, catalogue, old, new):
         names |= set(contents_to_send(base, trove))
     # Of two records with different sizes no content can be sent for both.
     sizes = {name: sizes_in(new, name) for name in sorted(names)}
-    return ChangeSet(parts, [(name, content(tree, some if len(some) == 1 else (), name)) for name, some in sizes.items()])
+    return ChangeSet(parts, [(name, content(tree, some, name, len(some) == 1)) for name, some in sizes.items()])
 
 
 def next_revised(catalogue, troves):
