@@ -32,13 +32,13 @@ BAR, FREE_BAR = TABLE.named("BAR FREE_BAR")
 def word_cases(script):
     """Words are looked at before anything else: neither the missing `/var` nor a call that would fail is noticed."""
     some = Examples(script)
-    for topic in ("words", "planned", "long words"):
+    for topic in ("words", "long words"):
         for row in TABLE.topics[topic]:
             script.disks(NO_VAR, (), 1, 1).input(b"x", 1, 1).sinks(1, 0)
             words = TABLE.lines(row.split())
             script.run(*words)
             some.name = "words"
-            some.compare(row, (1, b"", b"conary: not built %s\n" % words[0]) if topic == "planned" else (2, b"", program.USAGE))
+            some.compare(row, (2, b"", program.USAGE))
     # The longest name and the longest specification are words; the most words of a call, and one more.
     for words in ([b"q", b"n" * 255], [b"update", LONG_SPEC.encode()], [b"update", LONGER_SPEC.encode()]):
         script.disks().run(*words)

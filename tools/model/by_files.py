@@ -23,7 +23,6 @@ MODEL, LARGEST_MODEL = b"/etc/conary/system-model", 65_536
 
 # ---- the words
 
-PLANNED_COMMANDS = b"serve mirror".split()
 
 # A command takes at most so many names or specifications.
 MOST_NAMES = 64
@@ -64,8 +63,6 @@ def command_of(words):
     if not words:
         raise Ended(2, b"")
     command, rest = words[0], list(words[1:])
-    if command in PLANNED_COMMANDS:
-        raise Refused(b"not built " + command)
     options = []
     while rest and rest[0] in OPTIONS.get(command, ()):
         if rest[0] in options:

@@ -113,10 +113,6 @@ pub enum Refusal {
     BadConfig {
         line: u32,
     },
-    /// A command or option that isn't built yet.
-    NotBuilt {
-        word: Text,
-    },
     /// There are jobs to roll back, but none of this number.
     NoJob {
         number: u32,
@@ -159,7 +155,6 @@ impl Drop for Refusal {
             Refusal::NoLabel => (),
             Refusal::SameLabel { label: _label } => (),
             Refusal::BadConfig { line: _ } => (),
-            Refusal::NotBuilt { word: _word } => (),
             Refusal::NoJob { number: _ } => (),
             Refusal::NoModel => (),
             Refusal::BadModel { line: _ } => (),

@@ -43,7 +43,6 @@ refusal_text (refusal.Reserved path) = codes "reserved " ++ path
 refusal_text refusal.NoLabel = codes "no label"
 refusal_text (refusal.SameLabel label) = codes "same label " ++ label
 refusal_text (refusal.BadConfig n) = codes "bad config line " ++ decimal n
-refusal_text (refusal.NotBuilt word) = codes "not built " ++ word
 refusal_text (refusal.NoJob n) = codes "no job r." ++ decimal n
 refusal_text refusal.NoModel = codes "no model"
 refusal_text (refusal.BadModel n) = codes "bad model line " ++ decimal n

@@ -99,7 +99,6 @@ fn written(alloc: Global, refusal: &Refusal) -> Result<String, AllocError>
         Refusal::NoLabel => String::from_str(alloc, "no label"),
         Refusal::SameLabel { label } => told(alloc, "same label ", label.get()),
         Refusal::BadConfig { line } => format!(in alloc; "bad config line {line}"),
-        Refusal::NotBuilt { word } => told(alloc, "not built ", word.get()),
         Refusal::NoJob { number } => format!(in alloc; "no job r.{number}"),
         Refusal::NoModel => String::from_str(alloc, "no model"),
         Refusal::BadModel { line } => format!(in alloc; "bad model line {line}"),

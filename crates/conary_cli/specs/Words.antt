@@ -1,6 +1,6 @@
 -- The words of the command line: which lists of them are commands.
 use Rattle.std.specs.Prelude.{◌≡◌, ◌≤◌, IsTrue, Option, List, [], ◌∷◌, ℕ, length, nat_le, Bool, true, false, Some, None, Result, Ok, Err, if◌then◌else◌, ◌&&◌, ◌==◌, not, codes}
-use Rattle.std.specs.List.{list_all, list_any}
+use Rattle.std.specs.List.{list_all}
 use Rattle.std.specs.Str.{bytes_eq}
 use Rattle.cli_call.specs.cny-base.Name.{is_name}
 use Rattle.cli_call.specs.cny-base.Number.{is_decimal, decimal_value}
@@ -10,7 +10,6 @@ use Rattle.trove_spec.specs.Spec.{IsSpecText}
 use Rattle.repo_shadow.specs.declared.way.Way.{Way}
 use Rattle.repo_shadow.specs.declared.way.Way.TheVariants as way
 use Rattle.trove_spec.specs.declared.given.GivenSpec.{GivenSpec}
-use Rattle.cli_call.specs.cny-base.declared.refusal.Refusal.TheVariants.{NotBuilt}
 use Rattle.cli_call.specs.cny-laws.declared.failure.Failure.{Failure}
 use Rattle.cli_call.specs.cny-laws.declared.failure.Failure.TheVariants as failure
 use Rattle.conary_cli.specs.declared.words.Command.{Command}
@@ -18,20 +17,6 @@ use Rattle.conary_cli.specs.declared.words.Command.TheVariants as command
 use Rattle.conary_cli.specs.declared.words.Form.{Form}
 use Rattle.conary_cli.specs.declared.words.Form.TheVariants as form
 use Rattle.conary_cli.specs.declared.words.UpdateOptions.{UpdateOptions}
-
-abbrev pub is_among : List (List ℕ) → List ℕ → Bool
-is_among words word = list_any (bytes_eq word) words
-
--- the commands that aren't built yet
-abbrev pub planned_commands : List (List ℕ)
-planned_commands =
-    codes "serve" ∷ codes "mirror" ∷ []
-
-unfoldable pub is_planned_command : List ℕ → Bool
-is_planned_command word = is_among planned_commands word
-
-abbrev pub not_built : List ℕ → Failure
-not_built word = failure.Refused (NotBuilt word)
 
 -- ---- the options of a job
 
@@ -193,10 +178,6 @@ update_of words = let read = update_options_at words in update_with read.0 read.
 
 -- ---- all of these, by the first word
 
--- a word that is no command: it isn't built yet, or it is usage
-unfoldable pub other_of : List ℕ → Result Command Failure
-other_of word = if is_planned_command word then Err (not_built word) else Err failure.Usage
-
 -- the commands of the repository, and the one that reads neither disk
 unfoldable pub repository_of : List ℕ → List (List ℕ) → Result Command Failure
 repository_of word words =
@@ -204,7 +185,7 @@ repository_of word words =
     else if bytes_eq word (codes "cook") then cook_of words
     else if bytes_eq word (codes "commit") then commit_words words
     else if bytes_eq word (codes "rq") then list_of words
-    else other_of word
+    else Err failure.Usage
 
 -- those that only read the root
 unfoldable pub reading_of : List ℕ → List (List ℕ) → Result Command Failure
@@ -225,7 +206,7 @@ changing_of word words =
     else if bytes_eq word (codes "sync") then sync_of words
     else reading_of word words
 
--- The command that words are which hold no specification. The first word alone decides whether it isn't built yet; all else is usage.
+-- The command that words are which hold no specification; all else is usage.
 abbrev pub command_of : List (List ℕ) → Result Command Failure
 command_of [] = Err failure.Usage
 command_of (word ∷ words) = changing_of word words

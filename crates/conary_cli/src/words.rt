@@ -6,10 +6,10 @@ ghost use Rattle.cli_call.specs.cny-base.declared.text.TextFault.TheVariants as 
 ghost use Rattle.trove_spec.specs.Spec.{IsSpecText};
 ghost use Rattle.cli_call.specs.cny-laws.declared.failure.Failure.{Failure};
 ghost use Rattle.conary_cli.specs.declared.words.Command.{Command};
-ghost use Rattle.conary_cli.specs.Words.{AreGivenSpecs, AreSomething, AreWords, is_input, IsUpdate, IsUpdateWith, update_form, update_of, update_option_at, update_options_at, update_with, behind, form_of_words, IsGiven, IsLabelWord, IsMove, IsSend, is_short_word, are_names, is_planned_command, job_number, erase_of, erase_with, installed_of, jobs_of, local_of, verify_with, option_at, options_at, rollback_of, verify_of, changing_of, command_of, other_of, reading_of, repository_of, commit_words, cook_of, install_of, list_of, show_of, sync_of, OrMemory, ReadsOnly, ReadsWords, not_built};
+ghost use Rattle.conary_cli.specs.Words.{AreGivenSpecs, AreSomething, AreWords, is_input, IsUpdate, IsUpdateWith, update_form, update_of, update_option_at, update_options_at, update_with, behind, form_of_words, IsGiven, IsLabelWord, IsMove, IsSend, is_short_word, are_names, job_number, erase_of, erase_with, installed_of, jobs_of, local_of, verify_with, option_at, options_at, rollback_of, verify_of, changing_of, command_of, reading_of, repository_of, commit_words, cook_of, install_of, list_of, show_of, sync_of, OrMemory, ReadsOnly, ReadsWords};
 
 use cli_call::Failure;
-use cli_call::cny_base::{ListOf, Name, Options, Refusal, Text, TextFault, read_decimal};
+use cli_call::cny_base::{ListOf, Name, Options, Text, TextFault, read_decimal};
 use cny_version::Label;
 use repo_shadow::Way;
 use std::alloc::Global;
@@ -116,22 +116,6 @@ enum Form {
     Updates,
     // Those of the other commands, or of none.
     Others,
-}
-
-/// Whether the word is a command that isn't built yet.
-#[tactic(auto, unfolding(crate::specs::Words::is_planned_command))]
-fn is_planned(word: &str) -> bool
-    ensures { result ≡ is_planned_command word.now }
-{
-    matches!(word, "serve" | "mirror")
-}
-
-// The refusal of a word that isn't built yet.
-fn not_built_yet(alloc: Global, word: &str) -> Result<Command, Failure>
-    ensures { ReadsWords (Err (not_built word.now)) result }
-{
-    let word = Text::new(alloc, word)?;
-    Err(Failure::Refused(Refusal::NotBuilt { word }))
 }
 
 // With the first of the words, where it is an option that wasn't given before; and the words that are left.
@@ -605,17 +589,6 @@ fn read_update(alloc: Global, words: &[String]) -> Result<Command, Failure>
     read_updates(alloc, options, rest)
 }
 
-// A word that is no command.
-#[tactic(auto, unfolding(crate::specs::Words::other_of))]
-fn read_other(alloc: Global, word: &str) -> Result<Command, Failure>
-    ensures { ReadsWords (other_of word.now) result }
-{
-    if is_planned(word) {
-        return not_built_yet(alloc, word);
-    }
-    Err(Failure::Usage)
-}
-
 // The commands of the repository, and the one that reads neither disk.
 #[tactic(auto, unfolding(crate::specs::Words::repository_of))]
 fn read_of_repository(alloc: Global, word: &str, rest: &[String]) -> Result<Command, Failure>
@@ -633,7 +606,7 @@ fn read_of_repository(alloc: Global, word: &str, rest: &[String]) -> Result<Comm
     if word == "rq" {
         return read_list(alloc, rest);
     }
-    read_other(alloc, word)
+    Err(Failure::Usage)
 }
 
 // The commands that only read the root.

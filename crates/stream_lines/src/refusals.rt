@@ -67,7 +67,6 @@ fn named(word: &str, text: Text) -> Option<Refusal> {
         "Parent" => Refusal::Parent { path: text },
         "Reserved" => Refusal::Reserved { path: text },
         "SameLabel" => Refusal::SameLabel { label: text },
-        "NotBuilt" => Refusal::NotBuilt { word: text },
         _ => return None,
     })
 }
