@@ -2,9 +2,9 @@
 use Rattle.std.proofs.Common.{◌≡◌, inl, inr, ℕ, suc, ◌+◌, ◌<◌, ◌^◌, false, List, [], ◌∷◌, ◌++◌, length, map, slice_get, Option, None, refl, sym, ap, ◌∙◌, subst, arith, append-nil, length-append}
 use Rattle.change_set.specs.cny-base.declared.refusal.Refusal.{Refusal}
 use Rattle.change_set.specs.cny-base.declared.refusal.Refusal.TheVariants.{Malformed}
-use Rattle.item_cutter.specs.Cut.{Position, InMagic, InHead, InValue, Stands, open_bytes}
-use Rattle.item_cutter.specs.Decided.{Decided, Undecided}
-use Rattle.item_cutter.proofs.Faults.{no_bytes}
+use Rattle.cny_stream.specs.Cut.{Position, InMagic, InHead, InValue, Stands, open_bytes}
+use Rattle.cny_stream.specs.Decided.{Decided, Undecided}
+use Rattle.cny_stream.proofs.Faults.{no_bytes}
 use Rattle.std.specs.FinMap.{get}
 use Rattle.journal_log.specs.tree-disk.Rows.{bytes_of}
 use Rattle.journal_log.specs.tree-disk.Tree.{Name, Tree}

@@ -5,9 +5,9 @@ use Rattle.change_set.specs.cny-base.declared.refusal.Refusal.TheVariants.{Malfo
 use Rattle.std.proofs.lemmas.Bool.{eqb-true}
 use Rattle.std.proofs.lemmas.Bool.Decides.{nat_tests}
 use Rattle.cny_stream.specs.Item.{item_bytes}
-use Rattle.item_cutter.specs.Cut.{Position, InMagic, InHead, InValue, Stands, StandsBehind, Pushed, PushedHead, head_of, open_bytes}
-use Rattle.item_cutter.specs.Decided.{Decided}
-use Rattle.item_cutter.specs.declared.cutter.Event.TheVariants.{More, Begun, Head, Value, NoMagic, Unexpected}
+use Rattle.cny_stream.specs.Cut.{Position, InMagic, InHead, InValue, Stands, StandsBehind, Pushed, PushedHead, head_of, open_bytes}
+use Rattle.cny_stream.specs.Decided.{Decided}
+use Rattle.cny_stream.specs.declared.cutter.Event.TheVariants.{More, Begun, Head, Value, NoMagic, Unexpected}
 use Rattle.journal_log.specs.tree-disk.Tree.{Name}
 use Rattle.change_set.specs.declared.change.ChangeSet.{ChangeSet}
 use Rattle.change_set.specs.ChangeSet.{magic, change_bytes}

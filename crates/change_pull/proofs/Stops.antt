@@ -16,9 +16,9 @@ use Rattle.change_set.proofs.cny-base.Counts.{is_at_most}
 use Rattle.change_set.proofs.cny-base.ItemLaws.{same_front}
 use Rattle.cny_stream.specs.Item.{FitsItem, IsItemAt, item_bytes, is_expected, begins_unexpected, value_len}
 use Rattle.cny_stream.proofs.ItemLaws.{same_four, same_item, same_tail}
-use Rattle.item_cutter.specs.Cut.{head_of}
-use Rattle.item_cutter.specs.Decided.{Decided}
-use Rattle.item_cutter.proofs.Faults.{no_item, still}
+use Rattle.cny_stream.specs.Cut.{head_of}
+use Rattle.cny_stream.specs.Decided.{Decided}
+use Rattle.cny_stream.proofs.Faults.{no_item, still}
 use Rattle.change_set.specs.declared.change.ChangeSet.{ChangeSet}
 use Rattle.change_set.specs.ChangeSet.{magic, change_bytes, end_bytes, IsChangeSet}
 use Rattle.change_set.specs.FirstFault.{StreamItem, Progress, expected_tags, IsNext, NoneNext, IsFirstFault, tags_after, fault_of, is_oversized, stated_length, place_of}

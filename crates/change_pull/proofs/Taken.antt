@@ -3,11 +3,11 @@ use Rattle.std.proofs.Common.{◌≡◌, inl, inr, ℕ, ◌+◌, ◌-◌, ◌<�
 use Rattle.std.specs.Prelude.{slice_range}
 use Rattle.std.proofs.lemmas.List.{take-append-drop, take-take, get_or_default}
 use Rattle.std.proofs.lemmas.List.Elements.{All-drop, All-append}
-use Rattle.item_cutter.specs.Cut.{Position, InMagic, InHead, InValue, Stands, Pushed, PushedMagic, PushedHead, open_bytes}
-use Rattle.item_cutter.specs.Decided.{Decided}
-use Rattle.item_cutter.specs.declared.cutter.Cutter.{Cutter}
-use Rattle.item_cutter.specs.declared.cutter.Event.{Event}
-use Rattle.item_cutter.specs.declared.cutter.Event.TheVariants.{More, Begun, Head, Value, NoMagic, Unexpected}
+use Rattle.cny_stream.specs.Cut.{Position, InMagic, InHead, InValue, Stands, Pushed, PushedMagic, PushedHead, open_bytes}
+use Rattle.cny_stream.specs.Decided.{Decided}
+use Rattle.cny_stream.specs.declared.cutter.Cutter.{Cutter}
+use Rattle.cny_stream.specs.declared.cutter.Event.{Event}
+use Rattle.cny_stream.specs.declared.cutter.Event.TheVariants.{More, Begun, Head, Value, NoMagic, Unexpected}
 use Rattle.journal_log.specs.tree-disk.Disk.{DiskModel}
 use Rattle.journal_log.specs.tree-disk.Tree.{Name, Tree}
 use Rattle.change_set.specs.declared.change.ChangeSet.{ChangeSet}

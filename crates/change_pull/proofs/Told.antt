@@ -1,6 +1,6 @@
 -- What a feed tells, by what it was given before.
 use Rattle.std.proofs.Common.{◌≡◌, ℕ, ◌<◌, ◌^◌, All, List, ◌++◌, length, map, Option, Some, None, Result, Ok, Err, IfErr, IfOk, OnOk, MatchResult, sym, ap, ◌∙◌, subst}
-use Rattle.item_cutter.specs.Decided.{Decided}
+use Rattle.cny_stream.specs.Decided.{Decided}
 use Rattle.journal_log.specs.tree-disk.Tree.{Name, Tree}
 use Rattle.change_set.specs.cny-base.declared.refusal.Refusal.{Refusal}
 use Rattle.change_set.specs.cny-base.declared.refusal.Refusal.TheVariants as refusal

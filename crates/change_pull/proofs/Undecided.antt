@@ -15,9 +15,9 @@ use Rattle.change_set.proofs.cny-base.Below.{begins, begun}
 use Rattle.change_set.proofs.cny-base.ItemLaws.{same_front}
 use Rattle.cny_stream.specs.Item.{FitsItem, item_bytes, is_expected, begins_unexpected, value_len}
 use Rattle.cny_stream.proofs.ItemLaws.{same_four, same_item, same_tail}
-use Rattle.item_cutter.specs.Cut.{head_of}
-use Rattle.item_cutter.specs.Decided.{Undecided}
-use Rattle.item_cutter.proofs.Faults.{no_bytes, one_byte}
+use Rattle.cny_stream.specs.Cut.{head_of}
+use Rattle.cny_stream.specs.Decided.{Undecided}
+use Rattle.cny_stream.proofs.Faults.{no_bytes, one_byte}
 use Rattle.change_set.specs.declared.change.ChangeSet.{ChangeSet}
 use Rattle.change_set.specs.ChangeSet.{magic, change_bytes, IsChangeSet}
 use Rattle.change_set.specs.FirstFault.{StreamItem, Progress, item_text, start, expected_tags, AreGood, progress_to, IsFirstFault, StopsBehind, LacksMagic, fault_of, is_oversized, stated_length, place_of, begins_content}

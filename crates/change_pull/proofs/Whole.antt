@@ -9,8 +9,8 @@ use Rattle.change_set.specs.cny-base.declared.limits.TheConstants.{CONTENT_ITEM_
 use Rattle.change_set.specs.cny-base.declared.refusal.Refusal.TheVariants.{Malformed}
 use Rattle.change_set.proofs.trove-stream.Distinct.{TrovesDiffer}
 use Rattle.cny_stream.specs.Item.{FitsItem, IsItemAt, item_bytes, is_expected}
-use Rattle.item_cutter.specs.Cut.{InHead, Stands}
-use Rattle.item_cutter.specs.Decided.{Decided}
+use Rattle.cny_stream.specs.Cut.{InHead, Stands}
+use Rattle.cny_stream.specs.Decided.{Decided}
 use Rattle.journal_log.specs.tree-disk.Tree.{Name}
 use Rattle.change_set.specs.declared.change.Part.{Part}
 use Rattle.change_set.specs.declared.change.Carried.{Carried}

@@ -1,6 +1,6 @@
 -- What a pull stands for: the bytes that it was given, and what they decide.
 use Rattle.std.specs.Prelude.{ℕ, List, map, Option, Some, None, Result, Ok, Err, length}
-use Rattle.item_cutter.specs.Decided.{Decided}
+use Rattle.cny_stream.specs.Decided.{Decided}
 use Rattle.journal_log.specs.tree-disk.Tree.{Name, Tree}
 use Rattle.change_set.specs.cny-base.declared.refusal.Refusal.{Refusal}
 use Rattle.change_set.specs.cny-base.declared.refusal.Refusal.TheVariants as refusal

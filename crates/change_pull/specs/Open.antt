@@ -1,9 +1,9 @@
 -- What a reading stands for: the bytes that were given, as long as they decide nothing.
 use Rattle.std.specs.Prelude.{◌≡◌, ◌⊎◌, ℕ, ◌+◌, ◌<◌, ◌≤◌, ◌^◌, ◌==◌, Bool, true, false, IsTrue, List, [], ◌++◌, length, drop, Option, Some, None}
 use Rattle.cny_stream.specs.Item.{FitsItem, item_bytes, is_expected, begins_unexpected}
-use Rattle.item_cutter.specs.Cut.{Position, InMagic, InHead, InValue, Stands, StandsBehind, Pushed, PushedMagic, PushedHead, open_bytes}
-use Rattle.item_cutter.specs.declared.cutter.Event.{Event}
-use Rattle.item_cutter.specs.declared.cutter.Event.TheVariants.{Value}
+use Rattle.cny_stream.specs.Cut.{Position, InMagic, InHead, InValue, Stands, StandsBehind, Pushed, PushedMagic, PushedHead, open_bytes}
+use Rattle.cny_stream.specs.declared.cutter.Event.{Event}
+use Rattle.cny_stream.specs.declared.cutter.Event.TheVariants.{Value}
 use Rattle.journal_log.specs.tree-disk.Tree.{Name}
 use Rattle.journal_log.specs.tree-disk.Disk.{DiskModel}
 use Rattle.change_set.specs.cny-base.declared.limits.TheConstants.{CONTENT_ITEM_LIMIT}

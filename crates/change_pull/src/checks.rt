@@ -1,8 +1,8 @@
 //! What the next bytes of a change set give.
 ghost use Rattle.std.specs.Prelude.{◌≡◌, ◌≢◌, ◌⊎◌, ◌↔◌, ◌≤◌, ◌+◌, ◌++◌, [], ◌∷◌, List, Option, None, ℕ, IfErr, IsTrue, OnOk, true, false, length};
 ghost use Rattle.cny_stream.specs.Item.{item_bytes};
-ghost use Rattle.item_cutter.specs.Cut.{head_of};
-ghost use Rattle.item_cutter.specs.Decided.{Decided};
+ghost use Rattle.cny_stream.specs.Cut.{head_of};
+ghost use Rattle.cny_stream.specs.Decided.{Decided};
 ghost use Rattle.change_set.specs.declared.change.Carried.{Carried};
 ghost use Rattle.change_set.specs.declared.change.ChangeSet.{ChangeSet};
 ghost use Rattle.change_set.specs.declared.change.Part.{Part};
@@ -23,7 +23,7 @@ use crate::write::path_of;
 use change_set::cny_base::{CONTENT_ITEM_LIMIT, PARTS_LIMIT, Path, TextFault};
 use change_set::trove_stream::{distinct_rels, distinct_troves};
 use change_set::{CONTENT, CONTENT_TAGS, PART_TAGS, RELATIVE, TROVE, part_of};
-use item_cutter::Event;
+use cny_stream::Event;
 use std::alloc::Global;
 
 /// The tags of the items that may come next.

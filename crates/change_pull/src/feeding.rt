@@ -1,6 +1,6 @@
 //! Bytes given to a reading.
 ghost use Rattle.std.specs.Prelude.{◌≡◌, ◌≢◌, ◌<◌, ◌≤◌, ◌+◌, ◌++◌, [], List, Option, ℕ, IfErr, IfOk, IsTrue, OnOk, length, take, true, false};
-ghost use Rattle.item_cutter.specs.Decided.{Decided};
+ghost use Rattle.cny_stream.specs.Decided.{Decided};
 ghost use Rattle.change_set.specs.FirstFault.{IsFirstFault};
 ghost use Rattle.journal_log.specs.cny-base.Below.{is_below};
 ghost use Rattle.journal_log.specs.cny-base.Path.{root};
@@ -15,7 +15,7 @@ use crate::halt::Halt;
 use crate::reading::Reading;
 use crate::write::write;
 use change_set::cny_base::Path;
-use item_cutter::{Event, Step};
+use cny_stream::{Event, Step};
 use journal_log::tree_disk::TreeDisk;
 use std::alloc::Global;
 

@@ -1,6 +1,6 @@
 //! Change sets that come in pieces.
 ghost use Rattle.std.specs.Prelude.{◌≡◌, ◌≢◌, ◌<◌, ◌≤◌, ◌^◌, ◌++◌, [], List, ℕ, None, Some, Option, IfErr, IfOk, IsTrue, MatchResult, OnErr, OnOk, length};
-ghost use Rattle.item_cutter.specs.Decided.{Decided, Undecided};
+ghost use Rattle.cny_stream.specs.Decided.{Decided, Undecided};
 ghost use Rattle.change_set.specs.cny-base.declared.refusal.Refusal.{Refusal};
 ghost use Rattle.change_set.specs.ChangeSet.{IsSetStream};
 ghost use Rattle.change_set.specs.FirstFault.{IsFirstFault, IsFaultOf, IsRefusalOrMemory};
@@ -19,7 +19,7 @@ use crate::reading::{MAGIC, Reading};
 use crate::staged::StagedList;
 use change_set::cny_base::{Fault, Path, Refusal, Stop};
 use change_set::{Index, Parts, one_fault};
-use item_cutter::Cutter;
+use cny_stream::Cutter;
 use journal_log::tree_disk::TreeDisk;
 use std::alloc::Global;
 

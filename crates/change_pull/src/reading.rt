@@ -2,7 +2,7 @@
 use crate::item::Item;
 use crate::staged::Staged;
 use change_set::{Index, Part};
-use item_cutter::Cutter;
+use cny_stream::Cutter;
 
 /// `CNYCS01` and a line feed.
 pub(crate) const MAGIC: [u8; 8] = *b"CNYCS01\n";

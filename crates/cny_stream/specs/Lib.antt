@@ -1,2 +1,4 @@
 pub mod Item
 pub mod ItemLaws
+pub mod Cut
+pub mod Decided

@@ -2,8 +2,8 @@ use Rattle.std.proofs.Common.{◌≡◌, ◌-◌, ℕ, List, OnOk, IfErr, None, 
 use Rattle.change_set.specs.FirstFault.{IsFirstFault}
 use Rattle.cny_stream.specs.Item.{is_expected}
 use Rattle.std.specs.Prelude.{IsTrue}
-use Rattle.item_cutter.specs.Cut.{head_of}
-use Rattle.item_cutter.specs.Decided.{Decided}
+use Rattle.cny_stream.specs.Cut.{head_of}
+use Rattle.cny_stream.specs.Decided.{Decided}
 use Rattle.change_set.specs.cny-base.declared.refusal.Refusal.TheVariants.{TooLarge}
 use Rattle.change_set.specs.cny-base.declared.refusal.What.TheVariants.{Content}
 use Rattle.change_pull.specs.Files.{files_of}

@@ -1,8 +1,8 @@
 use Rattle.std.proofs.Common.{List, ℕ, IfErr, refl, sym, subst}
 use Rattle.std.proofs.lemmas.Result.{on_ok_weaker}
-use Rattle.item_cutter.specs.Decided.{Decided}
-use Rattle.item_cutter.specs.declared.cutter.Event.{Event}
-use Rattle.item_cutter.specs.declared.cutter.Event.TheVariants.{Value}
+use Rattle.cny_stream.specs.Decided.{Decided}
+use Rattle.cny_stream.specs.declared.cutter.Event.{Event}
+use Rattle.cny_stream.specs.declared.cutter.Event.TheVariants.{Value}
 use Rattle.std.specs.Prelude.{Bool}
 use Rattle.change_set.specs.FirstFault.{IsFirstFault}
 use Rattle.change_pull.specs.Halts.{IfRefusal}

@@ -1,6 +1,6 @@
 use Rattle.std.proofs.Common.{ℕ, List, ◌++◌, OnOk, sym, subst, append-nil}
 use Rattle.std.proofs.lemmas.Result.{on_ok_weaker}
-use Rattle.item_cutter.specs.declared.cutter.Event.{Event}
+use Rattle.cny_stream.specs.declared.cutter.Event.{Event}
 use Rattle.change_pull.specs.Gathered.{IsGathered}
 use Rattle.change_pull.specs.Open.{Gathers, IsWritten}
 use Rattle.change_pull.proofs.feeding.gather.Goals as goal

@@ -2,7 +2,7 @@ use Rattle.std.proofs.Common.{◌≡◌, ℕ, ◌+◌, ◌-◌, List, [], ◌++�
 use Rattle.std.specs.Prelude.{slice_range}
 use Rattle.std.proofs.lemmas.List.{length-drop, take_all}
 use Rattle.change_set.specs.FirstFault.{IsFirstFault}
-use Rattle.item_cutter.specs.Decided.{Decided}
+use Rattle.cny_stream.specs.Decided.{Decided}
 use Rattle.journal_log.specs.cny-base.Below.{is_below}
 use Rattle.change_pull.specs.Files.{HoldsFiles}
 use Rattle.change_pull.specs.Halts.{IfRefusal}

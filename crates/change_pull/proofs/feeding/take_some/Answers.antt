@@ -1,7 +1,7 @@
 use Rattle.std.proofs.Common.{◌++◌, length, take, refl, sym, ap, subst, arith, rules, length-take}
 use Rattle.change_set.specs.ChangeSet.{magic}
 use Rattle.change_set.specs.FirstFault.{IsFirstFault}
-use Rattle.item_cutter.specs.Decided.{Decided}
+use Rattle.cny_stream.specs.Decided.{Decided}
 use Rattle.journal_log.specs.cny-base.Below.{is_below}
 use Rattle.change_pull.specs.declared.reading.Reading.{Reading}
 use Rattle.change_pull.specs.Files.{HoldsFiles}

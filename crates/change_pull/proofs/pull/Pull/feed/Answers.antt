@@ -1,7 +1,7 @@
 use Rattle.std.proofs.Common.{◌++◌, Option, Some, Err, sym, subst, arith}
 use Rattle.change_set.specs.FirstFault.{IsFirstFault}
 use Rattle.change_set.specs.cny-base.declared.stop.Stop.{Stop}
-use Rattle.item_cutter.specs.Decided.{Decided}
+use Rattle.cny_stream.specs.Decided.{Decided}
 use Rattle.change_pull.specs.declared.halt.Halt.{Halt}
 use Rattle.change_pull.specs.Given.{IsGivenTo, IfRefused, UnlessFailing}
 use Rattle.change_pull.proofs.Ends.{open_is_undecided}

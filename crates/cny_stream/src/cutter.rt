@@ -1,6 +1,6 @@
 //! Where a stream that comes in pieces stands.
 ghost use Rattle.std.specs.Prelude.{◌≡◌, ◌<◌};
-ghost use Rattle.item_cutter.specs.declared.cutter.Place.TheVariants as places;
+ghost use Rattle.cny_stream.specs.declared.cutter.Place.TheVariants as places;
 
 /// What a push met.
 #[derive(Clone, Copy)]

@@ -1,5 +1,5 @@
-use Rattle.item_cutter.proofs.Faults.{unexpected, open_still}
-use Rattle.item_cutter.proofs.laws.item_faults.Goals as goal
+use Rattle.cny_stream.proofs.Faults.{unexpected, open_still}
+use Rattle.cny_stream.proofs.laws.item_faults.Goals as goal
 
 pub returns-clause-unexpected : goal.returns-clause-unexpected
 returns-clause-unexpected c = unexpected

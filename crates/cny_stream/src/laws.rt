@@ -1,7 +1,7 @@
 //! What the bytes of an item decide.
 ghost use Rattle.std.specs.Prelude.{◌≡◌, ◌<◌, ◌++◌, true, false, IsTrue, List, ℕ, length};
 ghost use Rattle.cny_stream.specs.Item.{begins_unexpected, is_expected};
-ghost use Rattle.item_cutter.specs.Decided.{Decided, Undecided, LacksItem};
+ghost use Rattle.cny_stream.specs.Decided.{Decided, Undecided, LacksItem};
 
 /// That no item with an expected tag comes is decided by its first byte, exactly where that is another one: then every
 /// continuation has the fault there. As long as the first byte is an expected tag, or hasn't come yet, nothing is decided.

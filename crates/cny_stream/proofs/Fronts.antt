@@ -7,7 +7,7 @@ use Rattle.std.proofs.Math.ListN.{set}
 use Rattle.std.proofs.lemmas.List.{take_more_set, take_all, length-set}
 use Rattle.std.proofs.lemmas.Slice.Eq.{bytes_eq-Decides}
 use Rattle.cny_stream.specs.Item.{is_expected}
-use Rattle.item_cutter.specs.Cut.{IsHead}
+use Rattle.cny_stream.specs.Cut.{IsHead}
 
 -- one byte more, as it is written behind the others
 pub one_more : (xs : List ℕ) (have b : ℕ) (front : List ℕ) → have < length xs → front ≡ take have xs → front ++ b ∷ [] ≡ take (have + 1) (set xs have b)

@@ -1,9 +1,9 @@
 -- What a push gives, by the position at which it was made.
 use Rattle.std.proofs.Common.{◌≡◌, ℕ, ◌<◌, List, [], ◌∷◌, ◌++◌, length, take, get_or, refl, sym, subst, arith}
-use Rattle.item_cutter.specs.declared.cutter.Cutter.{Cutter}
-use Rattle.item_cutter.specs.declared.cutter.Event.{Event}
-use Rattle.item_cutter.specs.declared.cutter.Place.TheVariants as place
-use Rattle.item_cutter.specs.Cut.{Position, InMagic, InHead, InValue, Stands, Pushed, PushedMagic, PushedHead, PushedValue}
+use Rattle.cny_stream.specs.declared.cutter.Cutter.{Cutter}
+use Rattle.cny_stream.specs.declared.cutter.Event.{Event}
+use Rattle.cny_stream.specs.declared.cutter.Place.TheVariants as place
+use Rattle.cny_stream.specs.Cut.{Position, InMagic, InHead, InValue, Stands, Pushed, PushedMagic, PushedHead, PushedValue}
 
 take_one : (bytes : List ℕ) → 0 < length bytes → take 1 bytes ≡ get_or bytes 0 0 ∷ []
 take_one [] some = absurd (omega arith)

@@ -4,7 +4,7 @@ use Rattle.std.specs.Prelude.{not}
 use Rattle.std.proofs.Math.Seq.{drop-append_seam}
 use Rattle.std.proofs.lemmas.Bool.{cond-true, cond-false, not_from_true}
 use Rattle.cny_stream.specs.Item.{item_bytes, is_expected, begins_unexpected}
-use Rattle.item_cutter.specs.Decided.{Decided, Undecided, LacksItem}
+use Rattle.cny_stream.specs.Decided.{Decided, Undecided, LacksItem}
 
 behind : (whole front more : List ℕ) → drop (length whole) ((whole ++ front) ++ more) ≡ front ++ more
 behind whole front more = ap (drop (length whole)) (append_assoc whole front more) ∙ drop-append_seam whole (front ++ more)

@@ -1,8 +1,8 @@
 //! The next bytes of a stream that comes in pieces.
 ghost use Rattle.std.specs.Prelude.{◌≡◌, ◌<◌, ◌≤◌, ◌==◌, ◌++◌, [], ◌∷◌, List, ℕ, length, take};
 ghost use Rattle.std.specs.Int.{w32, to_be_bytes};
-ghost use Rattle.item_cutter.specs.Cut.{Stands, Position, InMagic, InHead, InValue, StandsBehind, Pushed, PushedMagic, PushedHead, PushedValue, IsLost};
-ghost use Rattle.item_cutter.specs.declared.cutter.Place.TheVariants as place;
+ghost use Rattle.cny_stream.specs.Cut.{Stands, Position, InMagic, InHead, InValue, StandsBehind, Pushed, PushedMagic, PushedHead, PushedValue, IsLost};
+ghost use Rattle.cny_stream.specs.declared.cutter.Place.TheVariants as place;
 
 use crate::cutter::{Cutter, Event, Place, Step};
 

@@ -2,8 +2,8 @@ use Rattle.std.proofs.Common.{◌≡◌, ◌+◌, IsTrue, length, get_or, ap, ar
 use Rattle.std.proofs.Math.ListN.{set}
 use Rattle.std.proofs.lemmas.List.{length-set, length-take}
 use Rattle.cny_stream.specs.Item.{is_expected}
-use Rattle.item_cutter.proofs.Fronts.{head_read, last_of_head}
-use Rattle.item_cutter.proofs.cutter.Cutter.push_head.Goals as goal
+use Rattle.cny_stream.proofs.Fronts.{head_read, last_of_head}
+use Rattle.cny_stream.proofs.cutter.Cutter.push_head.Goals as goal
 
 pub returns : goal.returns
 returns c = λ magic whole front at.

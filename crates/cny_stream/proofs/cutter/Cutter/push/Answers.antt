@@ -1,6 +1,6 @@
 use Rattle.std.proofs.Common.{ℕ, List, take, arith, length-take}
-use Rattle.item_cutter.proofs.Positions.{in_magic, in_head, in_value}
-use Rattle.item_cutter.proofs.cutter.Cutter.push.Goals as goal
+use Rattle.cny_stream.proofs.Positions.{in_magic, in_head, in_value}
+use Rattle.cny_stream.proofs.cutter.Cutter.push.Goals as goal
 
 pub returns-in-Magic-clause-pushed : goal.returns-in-Magic-clause-pushed
 returns-in-Magic-clause-pushed c = λ magic whole position at.

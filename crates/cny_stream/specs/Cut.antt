@@ -5,10 +5,10 @@
 use Rattle.std.specs.Prelude.{◌≡◌, ◌≢◌, ℕ, ◌+◌, ◌<◌, ◌≤◌, ◌^◌, ◌==◌, Bool, true, false, IsTrue, List, [], ◌∷◌, ◌++◌, length, take}
 use Rattle.std.specs.Int.{w32, to_be_bytes}
 use Rattle.cny_stream.specs.Item.{is_expected, begins_unexpected}
-use Rattle.item_cutter.specs.declared.cutter.Cutter.{Cutter}
-use Rattle.item_cutter.specs.declared.cutter.Place.TheVariants as place
-use Rattle.item_cutter.specs.declared.cutter.Event.{Event}
-use Rattle.item_cutter.specs.declared.cutter.Event.TheVariants.{More, Begun, Head, Value, NoMagic, Unexpected}
+use Rattle.cny_stream.specs.declared.cutter.Cutter.{Cutter}
+use Rattle.cny_stream.specs.declared.cutter.Place.TheVariants as place
+use Rattle.cny_stream.specs.declared.cutter.Event.{Event}
+use Rattle.cny_stream.specs.declared.cutter.Event.TheVariants.{More, Begun, Head, Value, NoMagic, Unexpected}
 
 -- the head of an item: its tag, and the length of its value
 abbrev pub head_of : ℕ → ℕ → List ℕ

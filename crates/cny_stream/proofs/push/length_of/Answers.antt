@@ -1,7 +1,7 @@
 use Rattle.std.proofs.Common.{ℕ, zero, suc, ◌<◌, [], ◌∷◌, refl, arith}
 use Rattle.std.proofs.lemmas.Nat.{be_bytes_4}
 use Rattle.cny_base.proofs.StrFields.{IsBytes}
-use Rattle.item_cutter.proofs.push.length_of.Goals as goal
+use Rattle.cny_stream.proofs.push.length_of.Goals as goal
 
 four_bytes : (a b c d : ℕ) → a < 256 → b < 256 → c < 256 → d < 256 → IsBytes (a ∷ b ∷ c ∷ d ∷ [])
 four_bytes a b c d fa fb fc fd zero = fa

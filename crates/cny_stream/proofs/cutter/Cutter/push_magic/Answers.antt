@@ -1,6 +1,6 @@
 use Rattle.std.proofs.Common.{◌≡◌, ◌+◌, length, refl, sym, arith, ◌∙◌}
-use Rattle.item_cutter.proofs.Fronts.{no_magic, the_magic}
-use Rattle.item_cutter.proofs.cutter.Cutter.push_magic.Goals as goal
+use Rattle.cny_stream.proofs.Fronts.{no_magic, the_magic}
+use Rattle.cny_stream.proofs.cutter.Cutter.push_magic.Goals as goal
 
 pub returns-then-ne : goal.returns-then-ne
 returns-then-ne c = λ magic whole front at.
