@@ -1,6 +1,6 @@
 #!/usr/bin/env python3
-"""Prints what the documents tell of the crates from the sources: the levels of crates.txt, the table of crates, and what their definitions
-are about.
+"""Prints what the documents tell of the crates from the sources: the levels of crates.txt, the table of crates, what their definitions are
+about, and the clauses of their public functions.
 
 In a document such a part stands between two lines, `<!-- printed by tools/gate/book.py: NAME -->` and `<!-- end -->`.
 
@@ -12,9 +12,11 @@ import re
 import sys
 import textwrap
 
+from clauses import functions
 from crates import files_in, named, root_file, text_of
 
-DOCUMENTS = ("docs/DESIGN.md", "docs/DEFINITIONS.md")
+DOCUMENTS = ("docs/DESIGN.md", "docs/DEFINITIONS.md", "docs/CLAUSES.md")
+TESTS = re.compile(r"_(words|lines)$")
 PART = re.compile(r"(<!-- printed by tools/gate/book\.py: (\w+) -->)\n.*?<!-- end -->", re.DOTALL)
 
 
@@ -32,7 +34,7 @@ def levels():
     rows = ["```text"]
     for number in range(max(level.values()), 0, -1):
         here = [it for it in level if level[it] == number]
-        tests = [it for it in here if re.search(r"_(words|lines)$", it)]
+        tests = [it for it in here if TESTS.search(it)]
         text = "  ".join([it for it in here if it not in tests] + ([f"[{' '.join(tests)}]"] if tests else []))
         rows += [f"{number if not at else '':>3}  {line}" for at, line in enumerate(textwrap.wrap(text, 108, break_on_hyphens=False))]
     return rows + ["```"]
@@ -58,7 +60,22 @@ def definitions():
     return rows[:-1]
 
 
-PARTS = {"levels": levels, "crates": table, "definitions": definitions}
+def clauses():
+    """The public functions of each crate, what is asked of their callers, and what each clause says that has a comment of its own."""
+    rows = []
+    for crate in (it for it in named(keep_all=False) if not TESTS.search(it)):
+        found = []
+        for one in functions(crate):
+            plain = ", ".join(it.name for it in one.promises if not it.about)
+            asks = ", ".join(it.name for it in one.asks)
+            found.append((f"`{one.name}`" + " (law)" * one.is_law, asks, plain, one.about))
+            found += [("", "", it.name, it.about) for it in one.promises if it.about]
+        rows += [f"## `{crate}`", "", "| function | asks | clauses | says |", "|---|---|---|---|"] if found else []
+        rows += ["| " + " | ".join(cell.replace("|", "\\|") for cell in row) + " |" for row in found] + [""] * bool(found)
+    return rows[:-1]
+
+
+PARTS = {"levels": levels, "crates": table, "definitions": definitions, "clauses": clauses}
 
 
 def main(words):
