@@ -1,6 +1,6 @@
 #!/usr/bin/env python3
-"""Prints what the documents tell of the crates from the sources: the levels of crates.txt, the table of crates, what their definitions are
-about, and the clauses of their public functions.
+"""Prints what the documents tell of the crates and scripts from the sources: the levels of crates.txt, the table of crates, what their
+definitions are about, the clauses of their public functions, and what the scripts do.
 
 In a document such a part stands between two lines, `<!-- printed by tools/gate/book.py: NAME -->` and `<!-- end -->`.
 
@@ -15,7 +15,8 @@ import textwrap
 from clauses import functions
 from crates import files_in, named, root_file, text_of
 
-DOCUMENTS = ("docs/DESIGN.md", "docs/DEFINITIONS.md", "docs/CLAUSES.md")
+DOCUMENTS = ("CONTRIBUTING.md", "docs/DESIGN.md", "docs/DEFINITIONS.md", "docs/CLAUSES.md")
+SCRIPTS = ("tools/*.sh", "tools/gate/*", "tools/host/*", "bench/*", "examples/image/*")
 TESTS = re.compile(r"_(words|lines)$")
 PART = re.compile(r"(<!-- printed by tools/gate/book\.py: (\w+) -->)\n.*?<!-- end -->", re.DOTALL)
 
@@ -60,6 +61,16 @@ def definitions():
     return rows[:-1]
 
 
+def scripts():
+    """What each script does that can be called: the first sentence of the comment with which it begins."""
+    rows = ["| script | what it does |", "|---|---|"]
+    for path in (path for pattern in SCRIPTS for path in sorted(pathlib.Path().glob(pattern)) if path.is_file()):
+        if head := re.match(r'#!.*\n(?:"""((?:.+\n?)+?)(?:"""|\n)|((?:# .*\n)+))', path.read_text(encoding="utf-8")):
+            about = " ".join(line.removeprefix("# ") for line in (head[1] or head[2]).splitlines())
+            rows.append(f"| `{path}` | {re.split(r'[.:] (?=[A-Z]|tools/)|[.]$', about)[0]} |")
+    return rows
+
+
 def clauses():
     """The public functions of each crate, what is asked of their callers, and what each clause says that has a comment of its own."""
     rows = []
@@ -75,7 +86,7 @@ def clauses():
     return rows[:-1]
 
 
-PARTS = {"levels": levels, "crates": table, "definitions": definitions, "clauses": clauses}
+PARTS = {"levels": levels, "crates": table, "definitions": definitions, "clauses": clauses, "scripts": scripts}
 
 
 def main(words):

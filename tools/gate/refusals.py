@@ -2,9 +2,8 @@
 """Compares what docs/COMMANDS.md tells of refusals and statuses with the program's own texts. Ends with 1 where they differ.
 
 The texts of refusals are those of crates/cny_report/src/refusals.rt, the statuses and their lines those of
-crates/cli_call/src/reporting.rt. Of each refusal the document has a row that says what it means and, where a command gives it, one that
-says what to do; of each status it says what it means, what stands and what to do, and the line on standard error. It has no row of a text
-that the program doesn't write.
+crates/cli_call/src/reporting.rt. Of each refusal the document has a row that says what it means and what to do; of each status it says
+what it means, what stands and what to do, and the line on standard error. It has no row of a text that the program doesn't write.
 """
 import pathlib
 import re
@@ -13,7 +12,6 @@ import sys
 REFUSALS = pathlib.Path("crates/cny_report/src/refusals.rt")
 STATUSES = pathlib.Path("crates/cli_call/src/reporting.rt")
 DOCUMENT = pathlib.Path("docs/COMMANDS.md")
-NO_COMMAND = "comes? from no command"
 
 
 def plain(text):
@@ -61,13 +59,9 @@ def quoted(cell):
 
 def refusals_differ(document):
     wanted = refusal_texts()
-    meanings = {text: row[1:] for row in table(document, "What each refusal says") for text in quoted(row[0])}
-    answers = {text: row[1:] for row in table(document, "Refusals, and what to do") for text in quoted(row[0].split(" before ")[0])}
-    unused = [text for line in re.findall(rf"[^.\n]*{NO_COMMAND}", document) for text in quoted(line)]
-    yield from (f"{text}: COMMANDS doesn't say what it means" for text in wanted if not all(meanings.get(text, [""])))
-    yield from (f"{text}: COMMANDS doesn't say what to do" for text in wanted if text not in unused and not all(answers.get(text, [""])))
-    yield from (f"{text}: the program has no such text" for text in [*meanings, *answers, *unused] if text not in wanted)
-    yield from (f"{text}: COMMANDS says what to do, and that it comes from no command" for text in unused if text in answers)
+    told = {text: row[1:] for row in table(document, "Refusals") for text in quoted(row[0])}
+    yield from (f"{text}: COMMANDS doesn't say what it means and what to do" for text in wanted if not all(told.get(text, [""])))
+    yield from (f"{text}: the program has no such text" for text in told if text not in wanted)
 
 
 def statuses_differ(document):
