@@ -1,34 +1,12 @@
 //! What more roots reach.
 ghost use Rattle.std.specs.Prelude.{◌≤◌, eqb, length, take, OnOk};
 ghost use Rattle.std.specs.List.{IsDistinct};
-ghost use Rattle.trove_spec.specs.Reached.{HasAddedPlaces, HasAddedRefs};
 ghost use Rattle.dep_resolve.specs.Growing.{AreGathered, HasMore};
 
 use repo_index::Catalogue;
 use repo_index::cny_base::OutOfMemory;
 use repo_index::trove_parts::{Places, TroveId};
-
-// Adds the places of the troves of these ids behind those that are there, each once.
-fn add_ids(catalogue: &Catalogue, ids: &[TroveId], places: &mut Places) -> Result<(), OutOfMemory>
-    ensures { OnOk result (HasAddedPlaces catalogue.now.troves ids.now places.old places.new) }
-{
-    for id in ids {
-        if let Some(place) = catalogue.place_of(id) {
-            places.insert(place)?;
-        }
-    }
-    Ok(())
-}
-
-// Adds the places of the troves to which the trove at this place refers.
-fn add_refs(catalogue: &Catalogue, place: usize, places: &mut Places) -> Result<(), OutOfMemory>
-    ensures { OnOk result (HasAddedRefs catalogue.now.troves place places.old places.new) }
-{
-    if let Some(trove) = catalogue.trove_at(place) {
-        add_ids(catalogue, trove.refs(), places)?;
-    }
-    Ok(())
-}
+use trove_spec::{add_places, add_refs};
 
 /// Adds the places of what the roots from this one on reach to those of what the roots before reach.
 pub(crate) fn reach(
@@ -44,7 +22,7 @@ pub(crate) fn reach(
     ensures distinct { OnOk result (IsDistinct eqb places.new) }
 {
     let mut done = places.len();
-    add_ids(catalogue, &roots[from..], places)?;
+    add_places(catalogue, &roots[from..], places)?;
     while done < places.len() {
         let place = places.as_slice()[done];
         add_refs(catalogue, place, places)?;

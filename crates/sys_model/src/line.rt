@@ -1,70 +1,9 @@
-//! The lines of a model file: cut at the LFs, without what isn't read of them, and what stands behind their first word.
-ghost use Rattle.std.specs.Prelude.{◌≡◌, ◌+◌, ◌≤◌, ◌==◌, true, false, IfOk, length, map, MatchOption};
-ghost use Rattle.trove_spec.specs.Config as spec;
-ghost use Rattle.trove_spec.specs.Config.{cleaned, has_key, without_front, without_back, without_cr};
-ghost use Rattle.sys_model.specs.Model.{is_read, lines_of, text_behind};
+//! Which lines of a model file say something, and what stands behind their first word. The lines are cut as those of a configuration.
+ghost use Rattle.std.specs.Prelude.{◌≡◌, true, false, MatchOption};
+ghost use Rattle.trove_spec.specs.Config.{has_key};
+ghost use Rattle.sys_model.specs.Model.{is_read, text_behind};
 
-use std::alloc::{AllocError, Global};
-
-fn is_blank(byte: u8) -> bool
-    ensures { result ≡ spec.is_blank byte }
-{
-    byte == b' ' || byte == b'\t'
-}
-
-// The bytes without the blanks at the front.
-fn trim_front(bytes: &[u8]) -> &[u8]
-    ensures { result.now ≡ without_front bytes.now }
-{
-    let mut rest = bytes;
-    while let [first, after @ ..] = rest {
-        if !is_blank(*first) {
-            return rest;
-        }
-        rest = after;
-    }
-    rest
-}
-
-// The bytes without the blanks at the end.
-fn trim_back(bytes: &[u8]) -> &[u8]
-    ensures { result.now ≡ without_back bytes.now }
-{
-    let mut rest = bytes;
-    while let Some((last, before)) = rest.split_last() {
-        if !is_blank(*last) {
-            return rest;
-        }
-        rest = before;
-    }
-    rest
-}
-
-// The bytes without a CR at the end.
-fn trim_cr(bytes: &[u8]) -> &[u8]
-    ensures { result.now ≡ without_cr bytes.now }
-{
-    let Some((last, before)) = bytes.split_last() else {
-        return bytes;
-    };
-    if *last == b'\r' { before } else { bytes }
-}
-
-/// A line without its CR and without blanks at its ends.
-pub(crate) fn trimmed(line: &[u8]) -> &[u8]
-    ensures { result.now ≡ cleaned line.now }
-{
-    trim_front(trim_back(trim_cr(line)))
-}
-
-fn ends_word(bytes: &[u8]) -> bool
-    ensures { result ≡ spec.ends_word bytes.now }
-{
-    match bytes {
-        [] => true,
-        [first, ..] => is_blank(*first),
-    }
-}
+use trove_spec::trim_front;
 
 /// Whether a line says something: it isn't empty and no comment.
 pub(crate) fn is_read(line: &[u8]) -> bool
@@ -80,20 +19,8 @@ pub(crate) fn is_read(line: &[u8]) -> bool
 pub(crate) fn behind<'a>(word: &[u8], line: &'a [u8]) -> Option<&'a [u8]>
     ensures some { MatchOption result (has_key word.now line.now ≡ false) (λ text. (has_key word.now line.now ≡ true) × (text.now ≡ text_behind word.now line.now)) }
 {
-    let Some(rest) = line.strip_prefix(word) else {
+    let Some(rest) = trove_spec::behind(word, line) else {
         return None;
     };
-    if ends_word(rest) {
-        Some(trim_front(rest))
-    } else {
-        None
-    }
-}
-
-/// The lines of a file.
-pub(crate) fn pieces_of(alloc: Global, bytes: &[u8]) -> Result<Vec<&[u8]>, AllocError>
-    ensures pieces { IfOk result (λ lines. map (λ line. line.now) lines.items ≡ lines_of bytes.now) }
-    ensures few { IfOk result (λ lines. length lines.items ≤ length bytes.now + 1) }
-{
-    bytes.split(|byte| *byte == b'\n').collect(alloc)
+    Some(trim_front(rest))
 }

@@ -7,9 +7,10 @@ ghost use Rattle.sys_model.specs.declared.model.Model.{Model};
 ghost use Rattle.sys_model.specs.Model.{lines_of, IsModelOf, IsBadModelOrMemory};
 
 use crate::directive::{ModelLine, read_directive};
-use crate::line::{is_read, pieces_of, trimmed};
+use crate::line::is_read;
 use repo_index::cny_base::{Fault, ListOf, Refusal, TextFault};
 use std::alloc::Global;
+use trove_spec::{pieces_of, trimmed};
 
 /// What the lines of a model file say, without those that say nothing.
 pub type ModelLines = ListOf<ModelLine>;

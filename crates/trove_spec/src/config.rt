@@ -1,15 +1,16 @@
 //! The configuration.
-ghost use Rattle.std.specs.Prelude.{◌≡◌, ◌+◌, ◌-◌, ◌^◌, ◌<◌, ◌≤◌, ◌==◌, ◌↔◌, true, false, not, IsTrue, IfOk, IfErr, IsErrOf, List, length, drop, map, filter, MatchOption};
+ghost use Rattle.std.specs.Prelude.{◌≡◌, ◌+◌, ◌-◌, ◌^◌, ◌<◌, ◌≤◌, ◌==◌, ◌↔◌, false, not, IsTrue, IfOk, IfErr, IsErrOf, List, length, map, filter};
 ghost use Rattle.std.specs.List.{AllZip, slice_split, take_while};
 ghost use Rattle.repo_index.specs.cny-base.declared.limits.TheConstants.{CONFIG_LIMIT};
 ghost use Rattle.repo_index.specs.cny-base.declared.refusal.Fault.TheVariants as fault;
 ghost use Rattle.repo_index.specs.cny-base.declared.refusal.Refusal.TheVariants as refusal;
 ghost use Rattle.cny_version.specs.Label.{LabelParts};
 ghost use Rattle.trove_spec.specs.Config as spec;
-ghost use Rattle.trove_spec.specs.Config.{cleaned, has_key, is_word_there, IsTextOf, IsPathSetting, IsRelaxedSetting, IsFlavorSetting, IsSetting, IsConfigOf, IsBadConfigOrMemory, no_config, with_setting, lines_of, is_before_section, as_space, without_front, without_back, without_cr};
+ghost use Rattle.trove_spec.specs.Config.{is_word_there, IsTextOf, IsPathSetting, IsRelaxedSetting, IsFlavorSetting, IsSetting, IsConfigOf, IsBadConfigOrMemory, no_config, with_setting, lines_of, is_before_section, as_space, without_front};
 ghost use Rattle.trove_spec.specs.declared.config.Config.{Config};
 ghost use Rattle.trove_spec.specs.declared.config.Setting.{Setting};
 
+use crate::line::{behind, pieces_of, trim_front, trimmed};
 use cny_flavor::Flavor;
 use cny_version::{Label, distinct_texts};
 use repo_index::cny_base::{
@@ -103,57 +104,6 @@ impl Config {
     }
 }
 
-fn is_blank(byte: u8) -> bool
-    ensures { result ≡ spec.is_blank byte }
-{
-    byte == b' ' || byte == b'\t'
-}
-
-// The bytes without the blanks at the front.
-fn trim_front(bytes: &[u8]) -> &[u8]
-    ensures { result.now ≡ without_front bytes.now }
-{
-    let mut rest = bytes;
-    while let [first, after @ ..] = rest {
-        if !is_blank(*first) {
-            return rest;
-        }
-        rest = after;
-    }
-    rest
-}
-
-// The bytes without the blanks at the end.
-fn trim_back(bytes: &[u8]) -> &[u8]
-    ensures { result.now ≡ without_back bytes.now }
-{
-    let mut rest = bytes;
-    while let Some((last, before)) = rest.split_last() {
-        if !is_blank(*last) {
-            return rest;
-        }
-        rest = before;
-    }
-    rest
-}
-
-// The bytes without a CR at the end.
-fn trim_cr(bytes: &[u8]) -> &[u8]
-    ensures { result.now ≡ without_cr bytes.now }
-{
-    let Some((last, before)) = bytes.split_last() else {
-        return bytes;
-    };
-    if *last == b'\r' { before } else { bytes }
-}
-
-// A line without its CR and without blanks at its ends.
-fn trimmed(line: &[u8]) -> &[u8]
-    ensures { result.now ≡ cleaned line.now }
-{
-    trim_front(trim_back(trim_cr(line)))
-}
-
 fn begins_with_bracket(line: &[u8]) -> bool
     ensures { result ≡ spec.begins_with_bracket line.now }
 {
@@ -161,25 +111,6 @@ fn begins_with_bracket(line: &[u8]) -> bool
         [] => false,
         [first, ..] => *first == b'[',
     }
-}
-
-fn ends_word(bytes: &[u8]) -> bool
-    ensures { result ≡ spec.ends_word bytes.now }
-{
-    match bytes {
-        [] => true,
-        [first, ..] => is_blank(*first),
-    }
-}
-
-// What stands behind a key, where it is the first word of the line.
-fn behind<'a>(key: &[u8], line: &'a [u8]) -> Option<&'a [u8]>
-    ensures some { MatchOption result (has_key key.now line.now ≡ false) (λ rest. (has_key key.now line.now ≡ true) × (rest.now ≡ drop (length key.now) line.now)) }
-{
-    let Some(rest) = line.strip_prefix(key) else {
-        return None;
-    };
-    if ends_word(rest) { Some(rest) } else { None }
 }
 
 // The bytes behind their first blanks, with tabs read as spaces.
@@ -200,14 +131,6 @@ fn words_of(alloc: Global, text: &str) -> Result<Vec<&str>, AllocError>
     ensures { IfOk result (λ words. map (λ word. word.now) words.items ≡ slice_split (λ b. b == 32) text.now) }
 {
     text.split(' ').collect(alloc)
-}
-
-// The pieces between the LFs of a file.
-fn pieces_of(alloc: Global, bytes: &[u8]) -> Result<Vec<&[u8]>, AllocError>
-    ensures pieces { IfOk result (λ lines. map (λ line. line.now) lines.items ≡ slice_split (λ b. b == 10) bytes.now) }
-    ensures few { IfOk result (λ lines. length lines.items ≤ length bytes.now + 1) }
-{
-    bytes.split(|byte| *byte == b'\n').collect(alloc)
 }
 
 // Whether another label would be one too many.

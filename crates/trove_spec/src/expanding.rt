@@ -17,8 +17,8 @@ use std::alloc::Global;
 /// A list of troves.
 pub type Troves = ListOf<Trove>;
 
-// Adds the places of the troves of these ids behind those that are there, each once.
-fn add_places(
+/// Adds the places of the troves of these ids behind those that are there, each once.
+pub fn add_places(
     catalogue: &Catalogue,
     ids: &[TroveId],
     places: &mut Places,
@@ -33,8 +33,8 @@ fn add_places(
     Ok(())
 }
 
-// Adds the places of the troves to which the trove at this place refers.
-fn add_refs(catalogue: &Catalogue, place: usize, places: &mut Places) -> Result<(), OutOfMemory>
+/// Adds the places of the troves to which the trove at this place refers.
+pub fn add_refs(catalogue: &Catalogue, place: usize, places: &mut Places) -> Result<(), OutOfMemory>
     ensures { OnOk result (HasAddedRefs catalogue.now.troves place places.old places.new) }
 {
     if let Some(trove) = catalogue.trove_at(place) {

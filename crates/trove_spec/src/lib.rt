@@ -3,7 +3,7 @@
 //! refusal has its cause.
 //!
 //! Begin at `spec` and `resolving`. In the order in which each stands on the ones before it: `spec` (specifications and their
-//! texts), `config` (the label path and the flavor), `candidates` (the troves of a name that may be meant), `resolving`. By
+//! texts), `line` (the lines of a file of the root), `config` (the label path and the flavor), `candidates` (the troves of a name that may be meant), `resolving`. By
 //! themselves stand `expanding` (the troves that some roots reach) and `reading` (the configuration of a root). On `resolving` and
 //! `expanding` stands `given` (a specification with its text as it was given, the trove that it means, and all that this one reaches).
 #![tactic(auto)]
@@ -12,13 +12,15 @@ mod candidates;
 mod config;
 mod expanding;
 mod given;
+mod line;
 mod reading;
 mod resolving;
 mod spec;
 
 pub use config::{Config, Labels};
-pub use expanding::{Troves, expand, one_expansion};
+pub use expanding::{Troves, add_places, add_refs, expand, one_expansion};
 pub use given::{GivenSpec, expansion, expansion_from, meant};
+pub use line::{behind, pieces_of, trim_front, trimmed};
 pub use reading::read_config;
 pub use resolving::{best_of_newest, meant_troves, resolve};
 pub use spec::{Place, Spec};

@@ -12,10 +12,10 @@ loop-done-init c =
     let roots = c.args.roots.now in
     let from = c.args.from in
     let old = c.args.places.now in
-    let new = c.add_ids.new.places in
+    let new = c.add_places.new.places in
     let rest = drop from roots in
     let added : HasAddedPlaces troves rest old new =
-    subst (λ (l : List TroveId). HasAddedPlaces troves l old new) (take_all (length roots - from) rest (omega (arith, length-drop from roots))) c.in_ok-add_ids.ensures in
+    subst (λ (l : List TroveId). HasAddedPlaces troves l old new) (take_all (length roots - from) rest (omega (arith, length-drop from roots))) c.in_ok-add_places.ensures in
     record {
       gathered = subst (AreGathered troves roots new) (sym c.len-done.ensures.len)
           (subst (λ (l : List TroveId). AreGathered troves l new (length old)) (take-append-drop from roots) (gathered_roots troves (take from roots) rest old new added c.requires.before));

@@ -2,7 +2,7 @@ use Rattle.std.proofs.Common.{◌≡◌, Bool, true, false, cond, ◌==◌, [], 
 use Rattle.std.proofs.lemmas.Bool.Decides.{nat_tests}
 use Rattle.trove_spec.specs.Config.{without_cr}
 use Rattle.trove_spec.proofs.Trimming.{without_cr-push}
-use Rattle.trove_spec.proofs.config.trim_cr.Goals as goal
+use Rattle.trove_spec.proofs.line.trim_cr.Goals as goal
 
 pub returns-then-last-eq13 : goal.returns-then-last-eq13
 returns-then-last-eq13 c =

@@ -1,6 +1,6 @@
 use Rattle.std.proofs.Common.{◌≡◌, length}
 use Rattle.trove_spec.specs.Config.{without_front}
-use Rattle.trove_spec.proofs.config.trim_front.Given as goal
+use Rattle.trove_spec.proofs.line.trim_front.Given as goal
 
 abbrev pub invariant-loop-rest : goal.invariant-loop-rest
 invariant-loop-rest l = without_front l.rest ≡ without_front l.bytes

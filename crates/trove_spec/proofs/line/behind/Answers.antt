@@ -1,7 +1,7 @@
 use Rattle.std.proofs.Common.{sym, ap, ◌∙◌}
 use Rattle.trove_spec.specs.Config.{ends_word}
 use Rattle.trove_spec.proofs.ConfigLines.{key_there, key_missing}
-use Rattle.trove_spec.proofs.config.behind.Goals as goal
+use Rattle.trove_spec.proofs.line.behind.Goals as goal
 
 pub returns-in_default : goal.returns-in_default
 returns-in_default c = record { some = key_missing c.args.key.now c.args.line.now c.in_default.ensures.cases }

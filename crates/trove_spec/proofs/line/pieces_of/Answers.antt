@@ -1,7 +1,7 @@
 use Rattle.std.proofs.Common.{rules, tests}
 use Rattle.std.proofs.lemmas.Iterator.Consumers.{map_from_collect}
 use Rattle.std.proofs.lemmas.Iterator.Splits.{YieldsList-from_slice_split}
-use Rattle.sys_model.proofs.line.pieces_of.Goals as goal
+use Rattle.trove_spec.proofs.line.pieces_of.Goals as goal
 
 pub returns-clause-pieces : goal.returns-clause-pieces
 returns-clause-pieces c = map_from_collect _ c.collect.ensures.ran

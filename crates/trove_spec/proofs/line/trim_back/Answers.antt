@@ -1,7 +1,7 @@
 use Rattle.std.proofs.Common.{◌≡◌, Bool, true, false, cond, [], ◌∷◌, ◌++◌, sym, ap, ◌∙◌, rules}
 use Rattle.trove_spec.specs.Config.{is_blank, without_back}
 use Rattle.trove_spec.proofs.Trimming.{without_back-push}
-use Rattle.sys_model.proofs.line.trim_back.Goals as goal
+use Rattle.trove_spec.proofs.line.trim_back.Goals as goal
 
 pub returns-then-not-is_blank : goal.returns-then-not-is_blank
 returns-then-not-is_blank c =
