@@ -22,11 +22,15 @@ mod why;
 
 pub use answer::Answer;
 pub use argument::{Argument, arguments_of};
+pub use cny_dep;
+pub use cny_flavor;
 pub use cny_report;
+pub use cny_version;
 pub use line::Line;
 pub use outcomes::Outcomes;
 pub use program::{Calls, answer_all};
 pub use stop::Stop;
 pub use terms::bytes_of;
+pub use tree_scan;
 pub use value::Value;
 pub use why::Why;

@@ -1,5 +1,5 @@
 //! Calls on the catalogue: what is added to it, and its look-ups.
-use cny_version::Version;
+use line_words::cny_version::Version;
 use line_words::{Answer, Line};
 use repo_index::Catalogue;
 use repo_index::cny_base::{COMMITS_LIMIT, Copies, Name};

@@ -2,13 +2,13 @@
 use crate::plans::on_disk;
 use job_targets::cny_base::{Copies, Path, Stop};
 use job_targets::trove_stream::{FileAt, Trove};
-use line_words::{Answer, Line};
-use root_words::Quiet;
-use std::alloc::Global;
-use tree_scan::{
+use line_words::tree_scan::{
     Finding, Findings, Found, Mark, Verified, are_same_marks, differing, mark_at, mark_file,
     matches,
 };
+use line_words::{Answer, Line};
+use root_words::Quiet;
+use std::alloc::Global;
 
 // A fingerprint, of which a copy is the same.
 fn copied(found: &Mark, answer: &mut Answer) {

@@ -2,9 +2,9 @@
 use conflict_plan::{Planned, PlannedList, plan};
 use job_targets::file_stream::FileRec;
 use job_targets::trove_stream::Trove;
+use line_words::tree_scan::Mark;
 use line_words::{Answer, Line};
 use root_words::{Quiet, disk_of};
-use tree_scan::Mark;
 
 /// The disk at a place. Its first call fails where the first argument has the word `fail`.
 pub fn disk_at(line: &mut Line, place: usize) -> Option<Quiet> {

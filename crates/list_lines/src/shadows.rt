@@ -1,5 +1,5 @@
 //! What troves reach, moved onto labels.
-use cny_version::Label;
+use line_words::cny_version::Label;
 use line_words::{Answer, Line};
 use repo_index::Catalogue;
 use repo_index::file_stream::FileRec;

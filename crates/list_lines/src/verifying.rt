@@ -2,11 +2,11 @@
 use crate::plans::on_disk;
 use job_targets::cny_base::{Copies, Name, OutOfMemory, Path};
 use line_words::cny_report::verified_text;
+use line_words::tree_scan::{Finding, Findings, Found, Verified};
 use line_words::{Answer, Line};
 use root_edits::verify;
 use root_words::{Quiet, far_of};
 use std::alloc::Global;
-use tree_scan::{Finding, Findings, Found, Verified};
 
 // The lines of a verification, with a bar for each end of a line.
 fn found(found: &Verified, answer: &mut Answer) {

@@ -1,7 +1,9 @@
 //! What calls have in common that read something, show it, and write it again.
-use cny_report::cny_base::{Bytes, Copies, OutOfMemory, TextFault};
-use cny_report::trove_stream::{RelTrove, Trove, encode, encode_full, encode_rel, encode_rel_full};
 use line_words::Answer;
+use line_words::cny_report::cny_base::{Bytes, Copies, OutOfMemory, TextFault};
+use line_words::cny_report::trove_stream::{
+    RelTrove, Trove, encode, encode_full, encode_rel, encode_rel_full,
+};
 use std::alloc::Global;
 
 /// A copy of what was read.

@@ -3,10 +3,12 @@
 
 use crate::again::{behind, push_shown, push_stream};
 use change_rel::{apply, relative, to_send};
-use cny_report::change_set::{ChangeSet, Part, decode as decode_set};
-use cny_report::cny_base::{Copies, Fault, TextFault};
-use cny_report::trove_stream::{Installed, RelTrove, Trove, Troves, decode, decode_rel};
 use line_words::Answer;
+use line_words::cny_report::change_set::{ChangeSet, Part, decode as decode_set};
+use line_words::cny_report::cny_base::{Copies, Fault, TextFault};
+use line_words::cny_report::trove_stream::{
+    Installed, RelTrove, Trove, Troves, decode, decode_rel,
+};
 use update_job::{applied, check_allowed};
 
 // So many bytes at most are answered by their digits, and more by their number and their SHA-1.

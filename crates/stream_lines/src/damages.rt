@@ -1,9 +1,9 @@
 //! Damaged bytes: what readers answer for all beginnings of some bytes, and for other values of a byte.
 use crate::manifests::manifest;
-use cny_report::change_set;
-use cny_report::file_stream::{Encoding, decode_as};
-use cny_report::trove_stream::{decode, decode_full, decode_rel, decode_rel_full};
 use line_words::Answer;
+use line_words::cny_report::change_set;
+use line_words::cny_report::file_stream::{Encoding, decode_as};
+use line_words::cny_report::trove_stream::{decode, decode_full, decode_rel, decode_rel_full};
 use std::alloc::Global;
 
 // A longer text of a manifest is told by its digest.

@@ -1,12 +1,14 @@
 //! The elements of a trove's lists: how each is read from the value of an item, shown, and written again.
 use crate::again::behind;
 use crate::records::{have_spellings, push_record};
-use cny_dep::Dep;
-use cny_report::cny_base::{Bytes, Path, TextFault, next_str};
-use cny_report::file_stream::{Encoding, decode};
-use cny_report::trove_parts::{FileAt, TroveId, next_id, put_deps, put_files, put_paths, put_refs};
 use cny_stream::next_item;
 use line_words::Answer;
+use line_words::cny_dep::Dep;
+use line_words::cny_report::cny_base::{Bytes, Path, TextFault, next_str};
+use line_words::cny_report::file_stream::{Encoding, decode};
+use line_words::cny_report::trove_parts::{
+    FileAt, TroveId, next_id, put_deps, put_files, put_paths, put_refs,
+};
 use std::alloc::Global;
 
 // So many elements of a list are shown.

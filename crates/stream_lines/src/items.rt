@@ -3,8 +3,8 @@ ghost use Rattle.std.specs.Prelude.{IsTrue};
 ghost use Rattle.cny_stream.specs.Item.{FitsOpen};
 
 use crate::again::{behind, push_shown};
-use cny_report::cny_base::{Bytes, OutOfMemory};
 use cny_stream::{OpenItem, close_item, next_item, open_item, put_item};
+use line_words::cny_report::cny_base::{Bytes, OutOfMemory};
 use line_words::{Answer, Line};
 
 // ---- items that are written

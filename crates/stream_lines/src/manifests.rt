@@ -1,11 +1,11 @@
 //! Calls on manifests: what one makes, as a text.
-use cny_dep::Dep;
 use cny_manifest::{Made, component_of, read};
-use cny_report::change_set::Carried;
-use cny_report::cny_base::{Copies, Mode};
-use cny_report::file_stream::{FileRec, Owner};
-use cny_report::trove_parts::FileAt;
-use cny_report::trove_stream::Trove;
+use line_words::cny_dep::Dep;
+use line_words::cny_report::change_set::Carried;
+use line_words::cny_report::cny_base::{Copies, Mode};
+use line_words::cny_report::file_stream::{FileRec, Owner};
+use line_words::cny_report::trove_parts::FileAt;
+use line_words::cny_report::trove_stream::Trove;
 use line_words::{Answer, Line};
 
 /// A longer text is told by its digest.

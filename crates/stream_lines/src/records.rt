@@ -1,14 +1,14 @@
 //! Calls on file records.
 ghost use Rattle.std.specs.Prelude.{◌↔◌, IsTrue, All};
-ghost use Rattle.cny_report.specs.file-stream.Record.{FitsSize};
-ghost use Rattle.cny_report.specs.trove-parts.Files.{FitsFile};
+ghost use Rattle.line_words.specs.cny-report.file-stream.Record.{FitsSize};
+ghost use Rattle.line_words.specs.cny-report.trove-parts.Files.{FitsFile};
 
 use crate::again::{behind, copy_of, push_compared};
-use cny_report::cny_base::{Bytes, CONTENT_LIMIT, Mode};
-use cny_report::file_stream::{
+use line_words::cny_report::cny_base::{Bytes, CONTENT_LIMIT, Mode};
+use line_words::cny_report::file_stream::{
     Encoding, FileRec, Flags, Owner, decode_as, decode_full, encode_as, file_id,
 };
-use cny_report::trove_parts::FileAt;
+use line_words::cny_report::trove_parts::FileAt;
 use line_words::{Answer, Line};
 
 // Whether the size of a file's contents is within its limit, as `encode` asks for.

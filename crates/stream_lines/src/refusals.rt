@@ -1,5 +1,5 @@
 //! Refusals as texts.
-use cny_report::cny_base::{Refusal, Text, What};
+use line_words::cny_report::cny_base::{Refusal, Text, What};
 use line_words::{Answer, Line};
 
 fn what_of(line: &mut Line, place: usize) -> What {

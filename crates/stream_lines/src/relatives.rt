@@ -1,9 +1,9 @@
 //! Calls on relative troves.
 use crate::again::{copy_of, push_again, push_digests};
 use crate::elements::{elements, push_list};
-use cny_report::cny_base::{Paths, TextFault};
-use cny_report::trove_parts::TroveId;
-use cny_report::trove_stream::{
+use line_words::cny_report::cny_base::{Paths, TextFault};
+use line_words::cny_report::trove_parts::TroveId;
+use line_words::cny_report::trove_stream::{
     Deps, Files, Refs, RelParts, RelTrove, decode_rel, decode_rel_full,
 };
 use line_words::{Answer, Line};

@@ -1,11 +1,11 @@
 //! Calls on change sets.
 ghost use Rattle.std.specs.Prelude.{◌≡◌, [], IfOk};
-ghost use Rattle.cny_report.specs.change-set.ChangeSet.{HasContents};
+ghost use Rattle.line_words.specs.cny-report.change-set.ChangeSet.{HasContents};
 
 use crate::again::{behind, push_compared, push_lines};
-use cny_report::change_set::{CarriedList, ChangeSet, Parts, decode, encode};
-use cny_report::change_text;
-use cny_report::cny_base::{Bytes, Copies, Fault};
+use line_words::cny_report::change_set::{CarriedList, ChangeSet, Parts, decode, encode};
+use line_words::cny_report::change_text;
+use line_words::cny_report::cny_base::{Bytes, Copies, Fault};
 use line_words::{Answer, Line, Why};
 use std::alloc::Global;
 

@@ -1,10 +1,10 @@
 //! Calls on troves.
 use crate::again::{copy_of, push_again, push_digests, push_lines};
 use crate::elements::{elements, push_list};
-use cny_report::cny_base::TextFault;
-use cny_report::trove_parts::TroveId;
-use cny_report::trove_stream::{Deps, Files, Refs, Trove, check, decode, decode_full};
-use cny_report::troves_text;
+use line_words::cny_report::cny_base::TextFault;
+use line_words::cny_report::trove_parts::TroveId;
+use line_words::cny_report::trove_stream::{Deps, Files, Refs, Trove, check, decode, decode_full};
+use line_words::cny_report::troves_text;
 use line_words::{Answer, Line};
 
 // The id and the lists of a trove.

@@ -2,7 +2,7 @@
 ghost use Rattle.std.specs.Prelude.{◌≤◌, ◌+◌, length};
 
 use crate::texts::push_mode;
-use cny_report::cny_base::{
+use line_words::cny_report::cny_base::{
     Bytes, Copies, Fault, ListOf, Mode, Node, OutOfMemory, Path, Refusal, Stop, Text,
 };
 use line_words::{Answer, Line, Value};

@@ -1,7 +1,7 @@
 //! Calls on dependencies.
-use cny_dep::{Class, Dep, Flag, satisfies};
-use cny_report::cny_base::Name;
 use line_words::Answer;
+use line_words::cny_dep::{Class, Dep, Flag, satisfies};
+use line_words::cny_report::cny_base::Name;
 
 // The flags, a semicolon behind each.
 fn push_flags(flags: &[Flag], answer: &mut Answer) {

@@ -1,6 +1,6 @@
 //! Calls on flavors, and their score.
-use cny_flavor::{Flag, Flavor, InstructionSet, Sense, score};
 use line_words::Answer;
+use line_words::cny_flavor::{Flag, Flavor, InstructionSet, Sense, score};
 
 fn sense_word(sense: Sense) -> &'static str {
     match sense {

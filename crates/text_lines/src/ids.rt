@@ -1,7 +1,7 @@
 //! Calls on ids of troves.
-use cny_report::cny_base::{Bytes, OutOfMemory, TextFault};
-use cny_report::trove_parts::{IdAt, TroveId, next_id, put_id, read_id};
 use line_words::Answer;
+use line_words::cny_report::cny_base::{Bytes, OutOfMemory, TextFault};
+use line_words::cny_report::trove_parts::{IdAt, TroveId, next_id, put_id, read_id};
 use std::alloc::Global;
 
 // The bytes of an id behind two others.

@@ -1,10 +1,10 @@
 //! Calls on the texts of jobs and of verifications.
 use crate::troves::told;
-use cny_report::cny_base::Path;
-use cny_report::trove_parts::TroveId;
-use cny_report::{Note, changes_text, rolled_back_text, undos_text, verified_text};
+use line_words::cny_report::cny_base::Path;
+use line_words::cny_report::trove_parts::TroveId;
+use line_words::cny_report::{Note, changes_text, rolled_back_text, undos_text, verified_text};
+use line_words::tree_scan::{Finding, Findings, Found, Verified};
 use line_words::{Answer, Line};
-use tree_scan::{Finding, Findings, Found, Verified};
 use update_job::{Change, Changes};
 
 // The change that a part tells: `+`, `~` or `-`, and the text of an id.

@@ -15,11 +15,11 @@ mod texts;
 mod troves;
 mod versions;
 
-use cny_dep::Dep;
-use cny_flavor::Flavor;
-use cny_report::cny_base::{Name, Path, Target, Text, is_word, read_octal};
-use cny_report::trove_parts::TroveId;
-use cny_version::{Label, Version};
+use line_words::cny_dep::Dep;
+use line_words::cny_flavor::Flavor;
+use line_words::cny_report::cny_base::{Name, Path, Target, Text, is_word, read_octal};
+use line_words::cny_report::trove_parts::TroveId;
+use line_words::cny_version::{Label, Version};
 use line_words::{Answer, Calls, Line, Value, answer_all};
 use std::io;
 

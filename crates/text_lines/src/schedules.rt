@@ -1,5 +1,5 @@
 //! Calls on schedules of calls that fail.
-use cny_report::cny_base::{Fails, Schedule};
+use line_words::cny_report::cny_base::{Fails, Schedule};
 use line_words::{Answer, Line};
 
 // A letter for each of so many further calls, `f` where it fails and else `-`, and the counts behind them.

@@ -1,7 +1,7 @@
 //! Calls on names, paths, targets, modes, numbers and fields of streams.
 ghost use Rattle.update_job.specs.cny-base.StrField.{FitsStr};
 
-use cny_report::cny_base::{
+use line_words::cny_report::cny_base::{
     Bytes, Mode, Name, NameKind, OutOfMemory, Path, Target, Text, last_name, next_str, parent_of,
     put_str, read_decimal,
 };

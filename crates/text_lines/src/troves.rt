@@ -1,8 +1,8 @@
 //! Calls on the texts of troves.
-use cny_report::cny_base::{Name, OutOfMemory, Text};
-use cny_report::trove_parts::TroveId;
-use cny_report::trove_stream::Trove;
-use cny_report::{committed_text, named_text, trove_text, troves_text};
+use line_words::cny_report::cny_base::{Name, OutOfMemory, Text};
+use line_words::cny_report::trove_parts::TroveId;
+use line_words::cny_report::trove_stream::Trove;
+use line_words::cny_report::{committed_text, named_text, trove_text, troves_text};
 use line_words::{Answer, Line};
 
 /// A text of lines that takes memory.

@@ -1,9 +1,9 @@
 //! Calls on labels, counts and versions.
 ghost use Rattle.std.specs.Prelude.{IfSome, IsTrue};
-ghost use Rattle.cny_version.specs.Revision.{is_revision};
+ghost use Rattle.line_words.specs.cny-version.Revision.{is_revision};
 
-use cny_report::cny_base::{Copies, VERSION_LIMIT};
-use cny_version::{Count, Label, Revision, Version, next_revision};
+use line_words::cny_report::cny_base::{Copies, VERSION_LIMIT};
+use line_words::cny_version::{Count, Label, Revision, Version, next_revision};
 use line_words::{Answer, Line};
 
 // Numbers, with a dot between two.

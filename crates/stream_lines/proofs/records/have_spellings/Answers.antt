@@ -1,7 +1,7 @@
 use Rattle.std.proofs.Common.{All, List, take_all, subst, rules}
 use Rattle.std.proofs.lemmas.List.Elements.{All-more}
-use Rattle.cny_report.specs.trove-parts.Files.{FitsFile}
-use Rattle.cny_report.specs.trove-parts.declared.files.FileAt.{FileAt}
+use Rattle.line_words.specs.cny-report.trove-parts.Files.{FitsFile}
+use Rattle.line_words.specs.cny-report.trove-parts.declared.files.FileAt.{FileAt}
 use Rattle.stream_lines.proofs.records.have_spellings.Goals as goal
 
 pub loop-file-preserved : goal.loop-file-preserved

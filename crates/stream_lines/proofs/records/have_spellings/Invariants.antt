@@ -1,5 +1,5 @@
 use Rattle.std.proofs.Common.{All, take}
-use Rattle.cny_report.specs.trove-parts.Files.{FitsFile}
+use Rattle.line_words.specs.cny-report.trove-parts.Files.{FitsFile}
 use Rattle.stream_lines.proofs.records.have_spellings.Given as goal
 
 abbrev pub invariant-loop-file : goal.invariant-loop-file

@@ -1,7 +1,7 @@
 use Rattle.std.proofs.Common.{All, sym, subst}
 use Rattle.std.specs.List.Sorted.{IsStrictlySortedBy}
 use Rattle.std.proofs.lemmas.List.Elements.{All-nil}
-use Rattle.cny_report.specs.change-set.ChangeSet.{IsContentOf, content_cmp}
+use Rattle.line_words.specs.cny-report.change-set.ChangeSet.{IsContentOf, content_cmp}
 use Rattle.update_job.proofs.change-set.Carrying.{no_carried as none_rise}
 use Rattle.stream_lines.proofs.sets.joined_bytes.Goals as goal
 
