@@ -69,6 +69,16 @@ at_most() {
     awk -F ' [|] ' -v most="$1" -v text="$2" '{ print $0 " | " text } $3 + 0 > most { over = 1 } END { exit over }'
 }
 
+# doubled: of rows of times on standard input, how many times as long each took as for half the size, where both stand there.
+doubled() {
+    awk -F ' [|] ' '
+        / ms$/ {
+            size = $2 + 0
+            took[$1, size] = $3 + 0
+            if (took[$1, size / 2] > 0) printf "%s, to that of half as many | %s | %.2f times\n", $1, $2, $3 / took[$1, size / 2]
+        }'
+}
+
 # time_of COMMAND...: how long a command takes, in milliseconds.
 time_of() {
     begin=$(date +%s%N)
