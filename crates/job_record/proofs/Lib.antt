@@ -12,3 +12,4 @@ pub mod Leading
 pub mod Noted
 pub mod Records
 pub mod Keyed
+pub mod Files

@@ -3,3 +3,4 @@ pub mod Lists
 pub mod Changed
 pub mod Recorded
 pub mod Telling
+pub mod File

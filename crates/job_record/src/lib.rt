@@ -8,6 +8,7 @@
 mod deltas;
 mod entries;
 mod fields;
+mod file;
 mod job_deltas;
 mod laws;
 mod making;
@@ -16,6 +17,7 @@ mod reading;
 mod recorded;
 mod writing;
 
+pub use file::record_file;
 pub use laws::{distinct_records, records_by_lists};
 pub use making::record_bytes;
 pub use reading::decode;

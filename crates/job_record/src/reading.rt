@@ -19,9 +19,10 @@ use local_db::trove_stream::{distinct_rels, distinct_troves};
 use local_db::{Delta, Deltas, Format, Record, ToldEntries, ToldEntry};
 use std::alloc::Global;
 
-// The magic of a record.
-fn magic_of(format: Format) -> &'static [u8]
-    ensures { result.now ≡ record_magic format }
+/// The magic of a record.
+pub(crate) fn magic_of(format: Format) -> &'static [u8]
+    ensures value { result.now ≡ record_magic format }
+    ensures long { length result.now ≡ 8 }
 {
     match format {
         Format::One => MAGIC_1,

@@ -21,7 +21,7 @@ pub(crate) const MAGIC_1: &[u8] = b"CNYRB01\n";
 
 pub(crate) const MAGIC_2: &[u8] = b"CNYRB02\n";
 
-const NUMBER: u8 = 0x60;
+pub(crate) const NUMBER: u8 = 0x60;
 
 /// The head of the item of the number.
 pub(crate) const NUMBER_HEAD: &[u8] = &[NUMBER, 0, 0, 0, 4];

@@ -1,18 +1,19 @@
 //! What a job found at a path.
-ghost use Rattle.std.specs.Prelude.{◌≡◌, ◌↔◌, ◌≤◌, IfErr, IfOk, IsTrue, length};
+ghost use Rattle.std.specs.Prelude.{◌≡◌, ◌↔◌, ◌≤◌, IfErr, IfOk, IsTrue, Ok, length};
 ghost use Rattle.local_db.specs.cny-base.Count.{Rose};
 ghost use Rattle.local_db.specs.cny-base.declared.stop.Stop.TheVariants as stops;
-ghost use Rattle.content_store.specs.Store.{content_path};
+ghost use Rattle.content_store.specs.Store.{content_path, stored};
 ghost use Rattle.local_db.specs.tree-disk.Disk.{Reads};
+ghost use Rattle.local_db.specs.tree-disk.Steps.{IsDiskStop, Tests};
 ghost use Rattle.tree_scan.specs.declared.mark.Mark.TheVariants as mark;
+ghost use Rattle.job_targets.specs.Contents.{of_size};
 ghost use Rattle.job_targets.specs.Gathering.{IsReadStop};
 ghost use Rattle.job_targets.specs.Old.{HasMark, HoldsContent, IsContent, IsDamagedContent, IsDamagedOld, IsSaved};
 
-use content_store::get;
 use local_db::cny_base::{Bytes, Copies, Mode, Path, Stop, TextFault};
 use local_db::journal_log::Want;
 use local_db::saved_path;
-use local_db::tree_disk::TreeDisk;
+use local_db::tree_disk::{TreeDisk, steps};
 use sha1::Sha1;
 use std::alloc::Global;
 use tree_scan::Mark;
@@ -42,6 +43,31 @@ fn path_of(alloc: Global, dir: &Path, name: &[u8; 20]) -> Result<Path, Stop>
     }
 }
 
+// The bytes that stand under this name in the directory, where there are so many. A file of another size isn't read.
+fn sized_bytes<D: TreeDisk>(
+    alloc: Global,
+    disk: &mut D,
+    dir: &Path,
+    size: u64,
+    name: &[u8; 20],
+) -> Result<Option<Bytes>, Stop>
+    requires { length dir.now ≤ 983 }
+    ensures tests { Tests D.disk (λ found. found)
+        (λ tree. Ok (of_size size (stored tree dir.now name.now)))
+        disk.old disk.new result }
+    ensures stops { IfErr result IsDiskStop }
+{
+    let path = path_of(alloc, dir, name)?;
+    let look = steps::look(alloc, disk, &path)?;
+    let Some(found) = look.size() else {
+        return Ok(None);
+    };
+    if found != size {
+        return Ok(None);
+    }
+    steps::read_whole(alloc, disk, &path, size)
+}
+
 // The content of this name and size that the directory holds.
 fn content_in<D: TreeDisk>(
     alloc: Global,
@@ -57,7 +83,7 @@ fn content_in<D: TreeDisk>(
         (Rose (D.disk.faults disk.old) (D.disk.faults disk.new))) }
     ensures later { D.disk.faults disk.old ≤ D.disk.faults disk.new }
 {
-    if let Some(bytes) = get(alloc, disk, dir, name)? {
+    if let Some(bytes) = sized_bytes(alloc, disk, dir, size, name)? {
         if is_content(bytes.get(), size, name) {
             return Ok(bytes);
         }

@@ -1,20 +1,24 @@
 -- What is read at the name of a file.
-use Rattle.std.specs.Prelude.{List, ℕ, nat_lt, length, if◌then◌else◌, Option, Some, None}
-use Rattle.repo_index.specs.cny-base.Below.{begins_with}
+use Rattle.std.specs.Prelude.{List, ℕ, [], ◌∷◌, Option, Some, None}
 use Rattle.repo_index.specs.cny-base.declared.node.Node.{Node}
 use Rattle.repo_index.specs.cny-base.declared.node.Node.TheVariants as node
-use Rattle.repo_load.specs.declared.reading.TheConstants.{LARGE}
+use Rattle.item_files.specs.Walk.{stream_read}
 use Rattle.repo_load.specs.declared.reading.Seen.{Seen}
 use Rattle.repo_load.specs.declared.reading.Seen.TheVariants as seen
 use Rattle.repo_load.specs.Files.{magic}
 
--- a file of these bytes, where it begins as that of a commit
-abbrev pub begun_as : List ℕ → Seen
-begun_as bytes = if begins_with magic bytes then seen.File bytes else seen.Other
+-- the tags of the items of a commit: a trove, and the end
+abbrev pub tags : List ℕ
+tags = 0x40 ∷ 0x4F ∷ []
 
--- a file of these bytes, as it is read: a large one only where it begins as that of a commit
+-- the bytes that were read of a file, if any
+abbrev pub seen_of : Option (List ℕ) → Seen
+seen_of (Some bytes) = seen.File bytes
+seen_of None = seen.Other
+
+-- a file of these bytes, as it is read: a large one only where it is a stream of such items
 abbrev pub file_as : List ℕ → Seen
-file_as bytes = if nat_lt LARGE (length bytes) then begun_as bytes else seen.File bytes
+file_as bytes = seen_of (stream_read magic tags bytes)
 
 -- what stands there, as it is read
 abbrev pub seen_as : Option Node → Seen

@@ -14,9 +14,6 @@ use std::alloc::Global;
 /// `CNYKM01` and a line feed.
 pub(crate) const MAGIC: &[u8] = b"CNYKM01\n";
 
-/// How many bytes that is.
-pub(crate) const MAGIC_LEN: usize = 8;
-
 /// The tags of the items.
 pub(crate) const TROVE: u8 = 0x40;
 

@@ -12,9 +12,8 @@ ghost use Rattle.local_db.specs.trove-stream.declared.parts.TroveParts.{TrovePar
 ghost use Rattle.rollback_stack.specs.JobReading.{HoldsRecord, HoldsText, IsCheckStop, IsDamagedJob, IsDamagedText, IsJob, IsJobOf, IsReadStop, IsText, IsToldBy, damaged_as};
 
 use crate::job_marks::{marks_after, marks_before};
-use job_record::{decode, distinct_records, records_by_lists};
+use job_record::{decode, distinct_records, record_file, records_by_lists};
 use local_db::cny_base::{Path, Stop, TextFault};
-use local_db::content_store::file_at;
 use local_db::tree_disk::TreeDisk;
 use local_db::{Format, PathChange, Record, record_path};
 use past_jobs::{Changed, PastList};
@@ -71,7 +70,7 @@ pub fn read_record<D: TreeDisk>(
     ensures later { D.disk.faults disk.old ≤ D.disk.faults disk.new }
 {
     let path = record_path(alloc, number)?;
-    let Some(bytes) = file_at(alloc, disk, &path)? else {
+    let Some(bytes) = record_file(alloc, disk, format, &path)? else {
         return Err(Stop::Damaged { path });
     };
     or_damaged(record_of(alloc, format, number, bytes.get()), path)
