@@ -1,3 +1,9 @@
 pub mod Looking
 pub mod Walking
 pub mod Giving
+pub mod Entering
+pub mod Planning
+pub mod Standing
+pub mod Heading
+pub mod Packing
+pub mod Reading

@@ -1,32 +1,17 @@
 -- Runs that only read a disk, one behind the other.
-use Rattle.std.proofs.Common.{◌≡◌, Option, Some, None, Result, Ok, Err, refl}
-use Rattle.std.specs.FinMap.{get}
-use Rattle.tree_disk.specs.cny-base.declared.node.Node.{Node}
-use Rattle.tree_disk.specs.cny-base.declared.node.Node.TheVariants as node
-use Rattle.tree_disk.specs.Looks.{sees_file}
-use Rattle.tree_disk.specs.Rows.{is_file_at, look_of, seen_as}
+use Rattle.std.proofs.Common.{◌≡◌, Result, Ok, Err, refl}
 use Rattle.std.specs.Prelude.{IsErrAnd, OnOk}
 use Rattle.tree_disk.specs.cny-base.declared.refusal.Refusal.{Refusal}
 use Rattle.tree_disk.specs.cny-base.declared.stop.Stop.{Stop}
 use Rattle.tree_disk.specs.cny-base.declared.stop.Stop.TheVariants.{Memory}
 use Rattle.tree_disk.specs.Disk.{DiskModel, IsDisk}
 use Rattle.tree_disk.specs.Steps.{Tests}
-use Rattle.tree_disk.specs.Tree.{Name, Tree, is_file}
+use Rattle.tree_disk.specs.Tree.{Tree}
 use Rattle.tree_disk.proofs.StepLaws.{tests_answer, tests_stop, tests_memory, tests_then}
 use Rattle.cny_pack.specs.Walk.{OnlyLooks}
 
 never : {Y : Type 0} (y : Y) (refusal : Refusal) (A : Type 0) → (let x : Result Y Refusal = Ok y in x ≡ Err refusal) → A
 never y refusal A is = absurd (cc is)
-
-seen_file : (o : Option Node) → sees_file (seen_as o) ≡ is_file o
-seen_file None = refl
-seen_file (Some (node.Dir mode)) = refl
-seen_file (Some (node.File mode bytes)) = refl
-seen_file (Some (node.Link target)) = refl
-
--- a look sees a file where one stands
-pub file_seen : (t : Tree) (p : Name) → sees_file (look_of t p) ≡ is_file_at t p
-file_seen t p = seen_file (get t p)
 
 -- what holds at `Ok`, said otherwise
 pub on_ok : {X E A B : Type 0} (r : Result X E) → (A → B) → OnOk r A → OnOk r B

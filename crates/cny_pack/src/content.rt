@@ -1,8 +1,9 @@
 //! The contents of files, in pieces.
-ghost use Rattle.std.specs.Prelude.{◌≡◌, ◌≤◌, ◌-◌, length, IfOk, OnOk, IsTrue};
-ghost use Rattle.tree_disk.specs.Looks.{sees_file};
-ghost use Rattle.tree_disk.specs.Rows.{is_file_at};
-ghost use Rattle.cny_pack.specs.Gives.{Gains};
+ghost use Rattle.std.specs.Prelude.{◌≡◌, ◌≤◌, ◌-◌, length, take, drop, Some, IfOk, OnOk, IsTrue};
+ghost use Rattle.tree_disk.specs.Looks.{size_seen};
+ghost use Rattle.tree_disk.specs.Rows.{bytes_at, is_file_at};
+ghost use Rattle.cny_pack.specs.Entries.{IsFileOf};
+ghost use Rattle.cny_pack.specs.Gives.{GivesContent, GivesPiece};
 
 use crate::stop::{Halt, Unfit, halt_of};
 use cny_flow::Sink;
@@ -34,6 +35,7 @@ fn read_piece<D: TreeDisk>(
 ) -> Result<usize, Halt>
     requires { IsTrue D.disk.tells → IsTrue (is_file_at (D.disk.reads disk.old) path.now) }
     ensures most { IfOk result (λ count. count ≤ length buf.old) }
+    ensures told { IsTrue D.disk.tells → IfOk result (λ count. take count buf.new ≡ take count (drop at (bytes_at (D.disk.reads disk.old) path.now))) }
     ensures same { IsTrue D.disk.tells → D.disk.reads disk.new ≡ D.disk.reads disk.old }
 {
     match steps::read_at(alloc, disk, path, at, buf) {
@@ -49,7 +51,8 @@ pub(crate) fn check_file<D: TreeDisk>(
     path: &Path,
     size: u64,
 ) -> Result<(), Halt>
-    ensures { IsTrue D.disk.tells → OnOk result (IsTrue (is_file_at (D.disk.reads disk.new) path.now)) }
+    ensures file { IsTrue D.disk.tells → OnOk result (IsFileOf (D.disk.reads disk.old) path.now size) }
+    ensures same { IsTrue D.disk.tells → D.disk.reads disk.new ≡ D.disk.reads disk.old }
 {
     let now = size_now(alloc, disk, path)?;
     if now != size {
@@ -60,7 +63,8 @@ pub(crate) fn check_file<D: TreeDisk>(
 
 // The size of the file at a path.
 fn size_now<D: TreeDisk>(alloc: Global, disk: &mut D, path: &Path) -> Result<u64, Halt>
-    ensures { IsTrue D.disk.tells → OnOk result (IsTrue (is_file_at (D.disk.reads disk.new) path.now)) }
+    ensures file { IsTrue D.disk.tells → IfOk result (IsFileOf (D.disk.reads disk.old) path.now) }
+    ensures same { IsTrue D.disk.tells → D.disk.reads disk.new ≡ D.disk.reads disk.old }
 {
     match steps::look(alloc, disk, path) {
         Ok(look) => sized(&look),
@@ -70,7 +74,7 @@ fn size_now<D: TreeDisk>(alloc: Global, disk: &mut D, path: &Path) -> Result<u64
 
 // The size of a file that was seen.
 fn sized(look: &Look) -> Result<u64, Halt>
-    ensures { OnOk result (IsTrue (sees_file look.now)) }
+    ensures { IfOk result (λ size. size_seen look.now ≡ Some size) }
 {
     match look {
         Look::File { size, .. } => Ok(*size),
@@ -90,7 +94,7 @@ fn give_piece<D: TreeDisk, S: Sink>(
     out: &mut S,
 ) -> Result<usize, Halt>
     requires { IsTrue D.disk.tells → IsTrue (is_file_at (D.disk.reads disk.old) path.now) }
-    ensures given { IfOk result (Gains (S.sink.written out.old) (S.sink.written out.new)) }
+    ensures given { IfOk result (λ count. GivesPiece D.disk.tells (D.disk.reads disk.old) path.now at count (S.sink.written out.old) (S.sink.written out.new)) }
     ensures within { IfOk result (λ count. count ≤ size - at) }
     ensures end { IfOk result (λ count. count ≡ 0 → size - at ≡ 0) }
     ensures same { IsTrue D.disk.tells → D.disk.reads disk.new ≡ D.disk.reads disk.old }
@@ -104,7 +108,7 @@ fn give_piece<D: TreeDisk, S: Sink>(
 }
 
 /// Writes the content of a file of this size, piece by piece, each at most as long as the buffer: so many bytes, whatever the disk
-/// answers. A file stands there, where the disk tells its tree.
+/// answers. A file of this size stands there, where the disk tells its tree.
 pub(crate) fn give_content<D: TreeDisk, S: Sink>(
     alloc: Global,
     disk: &mut D,
@@ -113,8 +117,9 @@ pub(crate) fn give_content<D: TreeDisk, S: Sink>(
     buf: &mut [u8],
     out: &mut S,
 ) -> Result<(), Halt>
-    requires { IsTrue D.disk.tells → IsTrue (is_file_at (D.disk.reads disk.old) path.now) }
-    ensures { OnOk result (Gains (S.sink.written out.old) (S.sink.written out.new) size) }
+    requires { IsTrue D.disk.tells → IsFileOf (D.disk.reads disk.old) path.now size }
+    ensures given { OnOk result (GivesContent D.disk.tells (D.disk.reads disk.old) path.now size (S.sink.written out.old) (S.sink.written out.new)) }
+    ensures same { IsTrue D.disk.tells → D.disk.reads disk.new ≡ D.disk.reads disk.old }
 {
     let mut at = 0;
     'pieces: loop {

@@ -1,4 +1,13 @@
 //! The lines in front of the entries.
+ghost use Rattle.std.specs.Prelude.{◌≡◌, ◌∷◌, [], ◌++◌, false, IfOk, IsTrue, OnOk};
+ghost use Rattle.cny_flavor.specs.Spelling.{IsRelaxedText};
+ghost use Rattle.manifest_troves.specs.cny-base.Name.{is_name, kind_of_name};
+ghost use Rattle.manifest_troves.specs.trove-stream.Trove.{begins_with_colon, is_component_of};
+ghost use Rattle.cny_manifest.specs.Body.{is_own_by, is_group_kind};
+ghost use Rattle.cny_manifest.specs.Grammar.{kind_word, IsDepField, IsVersionField};
+ghost use Rattle.cny_manifest.specs.Spelling.{IsOwnLine};
+ghost use Rattle.cny_pack.specs.Head.{AddsLine, AddsName, AddsVersion, AddsFlavor, AddsFlavorPart, AddsId, AddsDep, AddsDeps, AreDeps, SaysDep, dep_line_of, IsHead};
+
 use crate::lines::is_line;
 use crate::stop::{BadWord, PackStop};
 use cny_dep::Dep;
@@ -9,6 +18,9 @@ use manifest_troves::{DepLine, DepLines};
 use std::alloc::Global;
 use std::collections::BTreeSet;
 use tree_disk::cny_base::{Bytes, Name, NameKind, TextFault};
+
+// Components and dependencies, each pair once, by the names and then by the dependencies' texts.
+type DepSet = BTreeSet<(Name, Dep)>;
 
 /// A component and what it requires or provides, as they were given.
 #[derive(Clone, Copy)]
@@ -48,126 +60,122 @@ fn unread(fault: TextFault, word: BadWord) -> PackStop {
     }
 }
 
-// Appends a line of these words.
-fn push_line(text: &mut Bytes, front: &str, behind: &str, word: BadWord) -> Result<(), PackStop> {
-    let start = text.get().len();
-    text.push_slice(front.as_bytes())?;
-    text.push_slice(behind.as_bytes())?;
-    if !is_line(&text.get()[start.min(text.get().len())..]) {
+// Appends a line and its line feed.
+fn push_line(text: &mut Bytes, line: Bytes, word: BadWord) -> Result<(), PackStop>
+    ensures { OnOk result (AddsLine line text.old text.new) }
+{
+    if !is_line(line.get()) {
         return Err(PackStop::Word(word));
     }
+    text.push_slice(line.get())?;
     Ok(text.push_slice(b"\n")?)
 }
 
+// The word in front of a name, and the space behind it.
+fn kind_front(name: &Name) -> Result<&'static [u8], PackStop>
+    ensures front { IfOk result (λ front. front.now ≡ kind_word (kind_of_name name.now) ++ 32 ∷ []) }
+    ensures no_group { OnOk result (is_group_kind (kind_of_name name.now) ≡ false) }
+{
+    match name.kind() {
+        NameKind::Component => Ok(b"component "),
+        NameKind::Package => Ok(b"package "),
+        NameKind::Group => Err(PackStop::Word(BadWord::Name)),
+    }
+}
+
+// The name with this text.
+fn name_of(alloc: Global, text: &str, word: BadWord) -> Result<Name, PackStop>
+    ensures value { IfOk result (λ name. name ≡ text.now) }
+    ensures named { OnOk result (IsTrue (is_name text.now)) }
+{
+    match Name::read(alloc, text) {
+        Ok(name) => Ok(name),
+        Err(fault) => Err(unread(fault, word)),
+    }
+}
+
+// The version with this text.
+fn version_of(alloc: Global, text: &str) -> Result<Version, PackStop>
+    ensures { IfOk result (IsVersionField text.now) }
+{
+    match Version::read(alloc, text) {
+        Ok(version) => Ok(version),
+        Err(fault) => Err(unread(fault, BadWord::Version)),
+    }
+}
+
+// The flavor with this text.
+fn flavor_of(alloc: Global, text: &str) -> Result<Flavor, PackStop>
+    ensures { IfOk result (IsRelaxedText text.now) }
+{
+    match Flavor::read(alloc, text) {
+        Ok(flavor) => Ok(flavor),
+        Err(fault) => Err(unread(fault, BadWord::Flavor)),
+    }
+}
+
+// The dependency with this text.
+fn dep_of(alloc: Global, text: &str, word: BadWord) -> Result<Dep, PackStop>
+    ensures { IfOk result (IsDepField text.now) }
+{
+    match Dep::read(alloc, text) {
+        Ok(dep) => Ok(dep),
+        Err(fault) => Err(unread(fault, word)),
+    }
+}
+
 // The name of a component or a package, and its line.
-fn push_name(alloc: Global, text: &mut Bytes, word: &str) -> Result<Name, PackStop> {
-    let name = Name::read(alloc, word).map_err(|fault| unread(fault, BadWord::Name))?;
-    let front = match name.kind() {
-        NameKind::Component => "component ",
-        NameKind::Package => "package ",
-        NameKind::Group => return Err(PackStop::Word(BadWord::Name)),
-    };
-    push_line(text, front, word, BadWord::Name)?;
+fn push_name(alloc: Global, text: &mut Bytes, word: &str) -> Result<Name, PackStop>
+    ensures { IfOk result (AddsName word.now text.old text.new) }
+{
+    let name = name_of(alloc, word, BadWord::Name)?;
+    let mut line = Bytes::new(alloc, kind_front(&name)?)?;
+    line.push_slice(word.as_bytes())?;
+    push_line(text, line, BadWord::Name)?;
     Ok(name)
 }
 
-fn push_version(alloc: Global, text: &mut Bytes, word: &str) -> Result<Version, PackStop> {
-    let version = Version::read(alloc, word).map_err(|fault| unread(fault, BadWord::Version))?;
-    push_line(text, "version ", word, BadWord::Version)?;
+fn push_version(alloc: Global, text: &mut Bytes, word: &str) -> Result<Version, PackStop>
+    ensures { IfOk result (AddsVersion word.now text.old text.new) }
+{
+    let version = version_of(alloc, word)?;
+    let mut line = Bytes::new(alloc, b"version ")?;
+    line.push_slice(word.as_bytes())?;
+    push_line(text, line, BadWord::Version)?;
     Ok(version)
 }
 
-// The flavor, and its line; no line where none was given. One that was given isn't empty.
-fn push_flavor(alloc: Global, text: &mut Bytes, word: Option<&str>) -> Result<Flavor, PackStop> {
-    let Some(word) = word else {
-        return Ok(Flavor::empty(alloc)?);
-    };
-    let flavor = Flavor::read(alloc, word).map_err(|fault| unread(fault, BadWord::Flavor))?;
+// The flavor that was given, and its line. It isn't empty.
+fn push_flavor(alloc: Global, text: &mut Bytes, word: &str) -> Result<Flavor, PackStop>
+    ensures { IfOk result (AddsFlavor word.now text.old text.new) }
+{
+    let flavor = flavor_of(alloc, word)?;
     if flavor.text().is_empty() {
         return Err(PackStop::Word(BadWord::Flavor));
     }
-    push_line(text, "flavor ", word, BadWord::Flavor)?;
+    let mut line = Bytes::new(alloc, b"flavor ")?;
+    line.push_slice(word.as_bytes())?;
+    push_line(text, line, BadWord::Flavor)?;
     Ok(flavor)
 }
 
-// A component, a space, and the text of a dependency in its own form.
-fn dep_text(alloc: Global, words: DepWords<'_>, word: BadWord) -> Result<String, PackStop> {
-    let name = Name::read(alloc, words.component).map_err(|fault| unread(fault, word))?;
-    let dep = Dep::read(alloc, words.dep).map_err(|fault| unread(fault, word))?;
-    let mut text = String::from_str(alloc, name.text())?;
-    text.push(' ')?;
-    text.push_str(dep.text())?;
-    Ok(text)
-}
-
-// The same of each, in their order, each once. No byte of a name is below a space, so that is the order of the names and then of the
-// dependencies' texts.
-fn dep_texts(
-    alloc: Global,
-    words: &[DepWords<'_>],
-    word: BadWord,
-) -> Result<BTreeSet<String>, PackStop> {
-    let mut texts = BTreeSet::new(alloc);
-    for words in words {
-        texts.insert(dep_text(alloc, *words, word)?)?;
+// The flavor, and its line; no line where none was given.
+fn push_flavor_part(alloc: Global, text: &mut Bytes, word: Option<&str>) -> Result<Flavor, PackStop>
+    ensures { IfOk result (AddsFlavorPart word.entry text.old text.new) }
+{
+    match word {
+        None => Ok(Flavor::empty(alloc)?),
+        Some(word) => push_flavor(alloc, text, word),
     }
-    Ok(texts)
-}
-
-// Whether the component is the one of the manifest, or one of its package.
-fn is_own(whole: &Name, name: &Name) -> bool {
-    match whole.kind() {
-        NameKind::Component => name == whole,
-        NameKind::Package => match name.text().strip_prefix(whole.text()) {
-            Some(rest) => rest.starts_with(':'),
-            None => false,
-        },
-        NameKind::Group => false,
-    }
-}
-
-// A component and a dependency, from such a text, and its line.
-fn push_dep(
-    alloc: Global,
-    text: &mut Bytes,
-    whole: &Name,
-    line: &str,
-    front: &str,
-    word: BadWord,
-) -> Result<DepLine, PackStop> {
-    let Some((name, dep)) = line.split_once(' ') else {
-        return Err(PackStop::Word(word));
-    };
-    let name = Name::read(alloc, name).map_err(|fault| unread(fault, word))?;
-    let dep = Dep::read(alloc, dep).map_err(|fault| unread(fault, word))?;
-    if !is_own(whole, &name) {
-        return Err(PackStop::Word(word));
-    }
-    push_line(text, front, line, word)?;
-    Ok(DepLine { name, dep })
-}
-
-// What is required, or provided, and the lines.
-fn push_deps(
-    alloc: Global,
-    text: &mut Bytes,
-    whole: &Name,
-    lines: &BTreeSet<String>,
-    front: &str,
-    word: BadWord,
-) -> Result<DepLines, PackStop> {
-    let mut deps = Vec::new(alloc);
-    for line in lines {
-        deps.push(push_dep(alloc, text, whole, line.as_str(), front, word)?)?;
-    }
-    Ok(DepLines::new(deps))
 }
 
 // The first lines, up to that of the flavor.
-fn push_id(alloc: Global, text: &mut Bytes, words: Words<'_>) -> Result<TroveId, PackStop> {
+fn push_id(alloc: Global, text: &mut Bytes, words: Words<'_>) -> Result<TroveId, PackStop>
+    ensures { IfOk result (AddsId words.entry text.old text.new) }
+{
     let name = push_name(alloc, text, words.name)?;
     let version = push_version(alloc, text, words.version)?;
-    let flavor = push_flavor(alloc, text, words.flavor)?;
+    let flavor = push_flavor_part(alloc, text, words.flavor)?;
     Ok(TroveId {
         name,
         version,
@@ -175,28 +183,118 @@ fn push_id(alloc: Global, text: &mut Bytes, words: Words<'_>) -> Result<TroveId,
     })
 }
 
+fn begins_with_colon(bytes: &[u8]) -> bool
+    ensures { result ≡ begins_with_colon bytes.now }
+{
+    match bytes {
+        [] => false,
+        [first, ..] => *first == b':',
+    }
+}
+
+// Whether the name is the package's, a colon and more.
+fn is_component_of(whole: &[u8], name: &[u8]) -> bool
+    ensures { result ≡ is_component_of whole.now name.now }
+{
+    match name.strip_prefix(whole) {
+        None => false,
+        Some(rest) => begins_with_colon(rest),
+    }
+}
+
+// Whether the component is the one of the manifest, or one of its package.
+fn is_own(whole: &Name, name: &Name) -> bool
+    ensures { result ≡ is_own_by (kind_of_name whole.now) whole.now name.now }
+{
+    match whole.kind() {
+        NameKind::Component => name.text().as_bytes() == whole.text().as_bytes(),
+        NameKind::Package => is_component_of(whole.text().as_bytes(), name.text().as_bytes()),
+        NameKind::Group => false,
+    }
+}
+
+// A component of its own, and a dependency.
+fn own_dep(
+    alloc: Global,
+    whole: &Name,
+    words: DepWords<'_>,
+    word: BadWord,
+) -> Result<(Name, Dep), PackStop>
+    ensures says { IfOk result (λ pair. SaysDep words.entry (dep_line_of pair)) }
+    ensures own { IfOk result (λ pair. IsOwnLine whole.now (dep_line_of pair)) }
+{
+    let name = name_of(alloc, words.component, word)?;
+    let dep = dep_of(alloc, words.dep, word)?;
+    if !is_own(whole, &name) {
+        return Err(PackStop::Word(word));
+    }
+    Ok((name, dep))
+}
+
+// What is required, or what is provided.
+fn own_deps(
+    alloc: Global,
+    whole: &Name,
+    given: &[DepWords<'_>],
+    word: BadWord,
+) -> Result<DepSet, PackStop>
+    ensures { IfOk result (λ deps. AreDeps whole.now given.now deps.keys) }
+{
+    let mut deps = BTreeSet::new(alloc);
+    for words in given {
+        deps.insert(own_dep(alloc, whole, *words, word)?)?;
+    }
+    Ok(deps)
+}
+
+// The line of a component and a dependency.
+fn push_dep(
+    alloc: Global,
+    text: &mut Bytes,
+    front: &[u8],
+    name: &Name,
+    dep: &Dep,
+    word: BadWord,
+) -> Result<(), PackStop>
+    ensures { OnOk result (AddsDep front.now (record { name = name.now; dep = dep.now }) text.old text.new) }
+{
+    let mut line = Bytes::new(alloc, front)?;
+    line.push_slice(b" ")?;
+    line.push_slice(name.text().as_bytes())?;
+    line.push_slice(b" ")?;
+    line.push_slice(dep.text().as_bytes())?;
+    push_line(text, line, word)?;
+    Ok(())
+}
+
+// What is required, or provided, and the lines.
+fn push_deps(
+    alloc: Global,
+    text: &mut Bytes,
+    front: &[u8],
+    deps: DepSet,
+    word: BadWord,
+) -> Result<DepLines, PackStop>
+    ensures { IfOk result (λ lines. AddsDeps front.now deps.keys text.old text.new lines) }
+{
+    let mut lines = Vec::new(alloc);
+    for (name, dep) in deps {
+        push_dep(alloc, text, front, &name, &dep, word)?;
+        lines.push(DepLine { name, dep })?;
+    }
+    Ok(DepLines::new(lines))
+}
+
 /// The lines in front of the entries that these words give.
-pub(crate) fn head_of(alloc: Global, words: Words<'_>) -> Result<Head, PackStop> {
-    let required = dep_texts(alloc, words.requires_, BadWord::Requires)?;
-    let provided = dep_texts(alloc, words.provides, BadWord::Provides)?;
+pub(crate) fn head_of(alloc: Global, words: Words<'_>) -> Result<Head, PackStop>
+    ensures { IfOk result (IsHead words.entry) }
+{
     let mut text = Bytes::new(alloc, b"manifest 2\n")?;
     let id = push_id(alloc, &mut text, words)?;
-    let requires_ = push_deps(
-        alloc,
-        &mut text,
-        &id.name,
-        &required,
-        "requires ",
-        BadWord::Requires,
-    )?;
-    let provides = push_deps(
-        alloc,
-        &mut text,
-        &id.name,
-        &provided,
-        "provides ",
-        BadWord::Provides,
-    )?;
+    let required = own_deps(alloc, &id.name, words.requires_, BadWord::Requires)?;
+    let provided = own_deps(alloc, &id.name, words.provides, BadWord::Provides)?;
+    let requires_ = push_deps(alloc, &mut text, b"requires", required, BadWord::Requires)?;
+    let provides = push_deps(alloc, &mut text, b"provides", provided, BadWord::Provides)?;
     Ok(Head {
         text,
         id,

@@ -1,11 +1,11 @@
-//! A directory's tree as a manifest, written to a sink in pieces, with no file whole in memory. The walk over the tree finds each path at
-//! which something stands and nothing else, the lines of entries are those of a manifest's spelling, and of a content just as many bytes
-//! are written as are asked for, or an error is answered; that the whole is the manifest of the tree is tested.
+//! A directory's tree as a manifest, written to a sink in pieces, with no file whole in memory. What is written to its end is a spelling of
+//! a manifest behind the words that were given, and over a disk that tells its tree its entries are just the nodes of that tree.
 #![tactic(auto)]
 
 mod content;
 mod entry;
 mod head;
+mod judge;
 mod lines;
 mod owners;
 mod pack;

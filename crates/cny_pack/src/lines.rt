@@ -1,6 +1,8 @@
 //! The lines of entries.
-ghost use Rattle.std.specs.Prelude.{◌≡◌, ◌++◌, ◌∷◌, [], true, IfOk, OnOk};
+ghost use Rattle.std.specs.Prelude.{◌≡◌, ◌++◌, ◌∷◌, [], true, IfOk, IsTrue, OnOk};
+ghost use Rattle.cny_manifest.specs.Grammar.{IsLine};
 ghost use Rattle.cny_manifest.specs.Spelling as spec;
+ghost use Rattle.cny_pack.specs.Gives.{GivesLine};
 ghost use Rattle.tree_disk.specs.cny-base.Number.{octal_text};
 
 use crate::stop::{Halt, Unfit};
@@ -13,7 +15,9 @@ use tree_disk::cny_base::{Bytes, Mode, OutOfMemory, Path, Target, decimal, octal
 const LINE_ROOM: usize = 2049;
 
 /// Whether the bytes can be a line: they are few enough, and none of them is a line feed.
-pub(crate) fn is_line(text: &[u8]) -> bool {
+pub(crate) fn is_line(text: &[u8]) -> bool
+    ensures { IsTrue result → IsLine text.now }
+{
     text.len() < LINE_ROOM && !text.contains(&b'\n')
 }
 
@@ -68,13 +72,13 @@ pub(crate) fn file_line(
     mode: Mode,
     owner: &Owner,
     flags: Flags,
-    size: u32,
+    size: u64,
 ) -> Result<Bytes, OutOfMemory>
     ensures { IfOk result (λ line. line ≡ spec.file_line true path.now mode owner.now flags size) }
 {
     let mut line = Bytes::new(alloc, b"file ")?;
     push_mode(&mut line, mode)?;
-    line.push_slice(decimal(alloc, u64::from(size))?.get().as_bytes())?;
+    line.push_slice(decimal(alloc, size)?.get().as_bytes())?;
     line.push_slice(b" ")?;
     push_owner(&mut line, owner)?;
     push_if(&mut line, b"config ", flags.config)?;
@@ -103,7 +107,9 @@ pub(crate) fn target_line(alloc: Global, target: &Target) -> Result<Bytes, OutOf
 }
 
 /// Writes a line and the line feed behind it.
-pub(crate) fn give_line<S: Sink>(out: &mut S, line: Bytes) -> Result<(), Halt> {
+pub(crate) fn give_line<S: Sink>(out: &mut S, line: Bytes) -> Result<(), Halt>
+    ensures { OnOk result (GivesLine line (S.sink.written out.old) (S.sink.written out.new)) }
+{
     if !is_line(line.get()) {
         return Err(Halt::Unfit(Unfit::LongLine));
     }

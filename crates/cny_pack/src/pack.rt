@@ -1,41 +1,27 @@
 //! The manifest of what stands in a directory.
+ghost use Rattle.std.specs.Prelude.{◌≡◌, All, IfOk, IsTrue, OnOk};
+ghost use Rattle.std.specs.Io.KnownBytes.{Appends};
+ghost use Rattle.cny_pack.specs.Entries.{GivesAll};
+ghost use Rattle.cny_pack.specs.Packs.{WritesPack};
+ghost use Rattle.cny_pack.specs.Plan.{CanStand};
+ghost use Rattle.cny_pack.specs.Walk.{FindsAll};
+
 use crate::entry::give_entries;
-use crate::head::{Head, Words, head_of};
+use crate::head::{Words, head_of};
+use crate::judge::judge;
 use crate::owners::Owners;
-use crate::plan::{Rules, plan};
+use crate::pattern::Pattern;
+use crate::plan::{Rules, Sight, plan};
 use crate::stop::{PackStop, stop_of};
 use crate::walk::{Seen, find_all};
 use cny_flow::{FlowFault, Sink};
-use manifest_troves::trove_parts::{Files, Refs};
-use manifest_troves::{TroveLines, troves_of};
 use std::alloc::Global;
-use tree_disk::cny_base::{Bytes, Copies, TextFault};
+use tree_disk::cny_base::Bytes;
 use tree_disk::{PIECE, TreeDisk};
 
-// Fails where the troves of these lines and entries don't keep the rules of troves. The owners of the entries and the names of their
-// contents don't count.
-fn judge(alloc: Global, head: Head, files: &Files) -> Result<Bytes, PackStop> {
-    let Head {
-        text,
-        id,
-        requires_,
-        provides,
-    } = head;
-    let lines = TroveLines {
-        id,
-        refs: Refs::new(Vec::new(alloc)),
-        requires_,
-        provides,
-        files: files.copy()?,
-    };
-    match troves_of(alloc, lines) {
-        Ok(_) => Ok(text),
-        Err(TextFault::Bad) => Err(PackStop::NoTroves),
-        Err(TextFault::Memory) => Err(PackStop::Memory),
-    }
-}
-
-fn give<S: Sink>(out: &mut S, bytes: &[u8]) -> Result<(), PackStop> {
+fn give<S: Sink>(out: &mut S, bytes: &[u8]) -> Result<(), PackStop>
+    ensures { OnOk result (Appends (S.sink.written out.old) (S.sink.written out.new) bytes.now) }
+{
     match out.give(bytes) {
         Ok(()) => Ok(()),
         Err(FlowFault::Failed) => Err(PackStop::SinkFailed),
@@ -43,22 +29,32 @@ fn give<S: Sink>(out: &mut S, bytes: &[u8]) -> Result<(), PackStop> {
     }
 }
 
-// Writes the lines, the entries and the line `end`.
+// Writes the first lines, the entries and the line `end`.
 fn give_all<D: TreeDisk, O: Owners, S: Sink>(
     alloc: Global,
     disk: &mut D,
     owners: &mut O,
+    config: &[Pattern],
     text: &Bytes,
-    files: &Files,
+    sights: &[Sight],
     out: &mut S,
-) -> Result<(), PackStop> {
+) -> Result<(), PackStop>
+    requires { All CanStand sights.now }
+    ensures given { OnOk result (GivesAll O.owns config.now D.disk.tells (D.disk.reads disk.old) text.now sights.now (S.sink.written out.old) (S.sink.written out.new)) }
+    ensures same { IsTrue D.disk.tells → D.disk.reads disk.new ≡ D.disk.reads disk.old }
+{
     let mut buf = vec![in alloc; 0u8; PIECE]?;
     give(out, text.get())?;
-    give_entries(alloc, disk, owners, files.get(), &mut buf, out)?;
-    give(out, b"end\n")
+    give_entries(alloc, disk, owners, config, sights, &mut buf, out)?;
+    give(out, b"end\n")?;
+    Ok(())
 }
 
-fn find<D: TreeDisk>(alloc: Global, disk: &mut D) -> Result<Seen, PackStop> {
+// What stands on the disk.
+fn find<D: TreeDisk>(alloc: Global, disk: &mut D) -> Result<Seen, PackStop>
+    ensures found { IsTrue D.disk.tells → IfOk result (FindsAll (D.disk.reads disk.old)) }
+    ensures same { IsTrue D.disk.tells → D.disk.reads disk.new ≡ D.disk.reads disk.old }
+{
     match find_all(alloc, disk) {
         Ok(seen) => Ok(seen),
         Err(stop) => Err(stop_of(stop)),
@@ -77,10 +73,24 @@ pub fn write_manifest<D: TreeDisk, O: Owners, S: Sink>(
     words: Words<'_>,
     rules: Rules<'_>,
     out: &mut S,
-) -> Result<(), PackStop> {
+) -> Result<(), PackStop>
+    // A manifest was written: of a disk that tells its tree that of its nodes.
+    ensures written { OnOk result (WritesPack O.owns rules.entry D.disk.tells (D.disk.reads disk.old) words.entry (S.sink.written out.old) (S.sink.written out.new)) }
+    // The disk stays as it was.
+    ensures same { IsTrue D.disk.tells → D.disk.reads disk.new ≡ D.disk.reads disk.old }
+{
     let head = head_of(alloc, words)?;
     let seen = find(alloc, disk)?;
-    let files = plan(alloc, seen, rules)?;
-    let text = judge(alloc, head, &files)?;
-    give_all(alloc, disk, owners, &text, &files, out)
+    let sights = plan(alloc, seen, rules.skip)?;
+    let text = judge(alloc, head, sights.as_slice())?;
+    give_all(
+        alloc,
+        disk,
+        owners,
+        rules.config,
+        &text,
+        sights.as_slice(),
+        out,
+    )?;
+    Ok(())
 }

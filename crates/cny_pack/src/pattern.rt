@@ -1,5 +1,5 @@
 //! Patterns of paths.
-ghost use Rattle.std.specs.Prelude.{◌≡◌};
+ghost use Rattle.std.specs.Prelude.{◌≡◌, Some, IfOk, IsErrOf, OnOk};
 ghost use Rattle.cny_pack.specs.Patterns as spec;
 
 use std::alloc::Global;
@@ -15,20 +15,32 @@ pub struct Pattern {
 
 impl Pattern {
     /// The pattern with this text. `Bad` where there is more than one `*`.
-    pub fn read(alloc: Global, text: &str) -> Result<Self, TextFault> {
-        let Some((before, after)) = text.split_once('*') else {
-            return Ok(Pattern {
+    pub fn read(alloc: Global, text: &str) -> Result<Self, TextFault>
+        ensures value { IfOk result (λ pattern. spec.IsPatternOf text.now pattern.before pattern.after) }
+        ensures bad { IsErrOf result TextFault.Bad → spec.HasTwoStars text.now }
+    {
+        match text.split_once('*') {
+            None => Ok(Pattern {
                 before: Text::new(alloc, text)?,
                 after: None,
-            });
-        };
-        if after.contains('*') {
-            return Err(TextFault::Bad);
+            }),
+            Some((before, after)) => Pattern::with_star(alloc, before, after),
         }
-        Ok(Pattern {
-            before: Text::new(alloc, before)?,
-            after: Some(Text::new(alloc, after)?),
-        })
+    }
+
+    // The pattern of what is before a `*` and behind it.
+    fn with_star(alloc: Global, before: &str, after: &str) -> Result<Self, TextFault>
+        ensures value { IfOk result (λ pattern. (pattern.before ≡ before.now) × (pattern.after ≡ Some after.now)) }
+        ensures single { OnOk result (spec.HasNoStar after.now) }
+        ensures bad { IsErrOf result TextFault.Bad → spec.HasStar after.now }
+    {
+        match after.split_once('*') {
+            None => Ok(Pattern {
+                before: Text::new(alloc, before)?,
+                after: Some(Text::new(alloc, after)?),
+            }),
+            Some((_between, _rest)) => Err(TextFault::Bad),
+        }
     }
 
     /// Whether the path is one of the pattern's.

@@ -1,15 +1,17 @@
 //! Which entries a manifest gets.
-ghost use Rattle.std.specs.Prelude.{◌≡◌};
+ghost use Rattle.std.specs.Prelude.{◌≡◌, ◌++◌, ◌∷◌, [], false, All, IfOk, IfErr, OnOk};
+ghost use Rattle.std.specs.BTreeMap.{IsOrdered};
+ghost use Rattle.std.specs.Cmp.Lexicographic.{slice_cmp};
+ghost use Rattle.std.specs.Ordering.{nat_cmp};
 ghost use Rattle.cny_pack.specs.Plan as spec;
+ghost use Rattle.cny_pack.specs.Plan.{IsFit, RefusesOne, RefusesOf};
 
-use crate::pattern::{Pattern, is_any};
+use crate::pattern::Pattern;
 use crate::stop::{PackStop, Unfit};
 use crate::walk::Seen;
-use manifest_troves::file_stream::{FileRec, Flags, Owner};
-use manifest_troves::trove_parts::{FileAt, Files};
 use std::alloc::Global;
 use tree_disk::Look;
-use tree_disk::cny_base::{CONTENT_LIMIT, OutOfMemory, Path};
+use tree_disk::cny_base::{CONTENT_LIMIT, Path};
 
 /// What is made of what stands in the directory.
 #[derive(Clone, Copy)]
@@ -20,8 +22,15 @@ pub struct Rules<'a> {
     pub skip: bool,
 }
 
-/// Why what was seen at a path can't be in a manifest; nothing where it can.
-pub(crate) fn unfit_of(path: &Path, look: &Look) -> Option<Unfit>
+/// What was seen at a path, and gets an entry.
+#[derive(Drop)]
+pub(crate) struct Sight {
+    pub(crate) path: Path,
+    pub(crate) look: Look,
+}
+
+// Why what was seen at a path can't be in a manifest; nothing where it can.
+fn unfit_of(path: &Path, look: &Look) -> Option<Unfit>
     ensures { result ≡ spec.unfit_of path.now look.now }
 {
     if path.is_forbidden(look.is_dir()) {
@@ -33,68 +42,34 @@ pub(crate) fn unfit_of(path: &Path, look: &Look) -> Option<Unfit>
     }
 }
 
-// Root, for a record of which the owner doesn't count.
-fn any_owner(alloc: Global) -> Result<Owner, OutOfMemory> {
-    Owner::new(alloc, "root", "root").map_err(|_| OutOfMemory)
-}
-
-// What a trove records of what was seen, but for its owner and the name of its content; nothing where nothing stands, or a file that
-// is too large.
-fn record_of(
-    alloc: Global,
-    path: &Path,
-    look: Look,
-    rules: Rules<'_>,
-) -> Result<Option<FileRec>, OutOfMemory> {
-    Ok(match look {
-        Look::Nothing => None,
-        Look::Dir { mode } => Some(FileRec::Dir {
-            mode,
-            owner: any_owner(alloc)?,
-        }),
-        Look::Link { target } => Some(FileRec::Link { target }),
-        Look::File { mode, size } => match u32::try_from(size) {
-            Ok(size) => Some(FileRec::File {
-                mode,
-                owner: any_owner(alloc)?,
-                flags: Flags {
-                    config: is_any(rules.config, path),
-                    initial: false,
-                    transient: false,
-                },
-                size,
-                name: [0; 20],
-            }),
-            Err(_) => None,
-        },
-    })
-}
-
 // Adds what was seen at a path, where it can be in a manifest.
-fn add(
-    alloc: Global,
-    files: &mut Vec<FileAt>,
-    path: Path,
-    look: Look,
-    rules: Rules<'_>,
-) -> Result<(), PackStop> {
+fn add(sights: &mut Vec<Sight>, path: Path, look: Look, skip: bool) -> Result<(), PackStop>
+    ensures added { OnOk result (sights.new.items ≡ sights.old.items ++ spec.sights_of ((path, look) ∷ [])) }
+    ensures fit { skip ≡ false → OnOk result (IsFit (path, look)) }
+    ensures refused { IfErr result (RefusesOne path look skip) }
+{
     if let Some(why) = unfit_of(&path, &look) {
-        if rules.skip {
+        if skip {
             return Ok(());
         }
         return Err(PackStop::Unfit { path, why });
     }
-    if let Some(rec) = record_of(alloc, &path, look, rules)? {
-        files.push(FileAt { path, rec })?;
+    if !look.is_nothing() {
+        sights.push(Sight { path, look })?;
     }
     Ok(())
 }
 
-/// The entries of what was seen, in the order of paths.
-pub(crate) fn plan(alloc: Global, seen: Seen, rules: Rules<'_>) -> Result<Files, PackStop> {
-    let mut files = Vec::new(alloc);
+/// Of what was seen what gets an entry, in the order of paths.
+pub(crate) fn plan(alloc: Global, seen: Seen, skip: bool) -> Result<Vec<Sight>, PackStop>
+    ensures planned { IfOk result (λ sights. sights.items ≡ spec.sights_of seen.entries) }
+    ensures fit { skip ≡ false → OnOk result (All IsFit seen.entries) }
+    ensures refused { IfErr result (RefusesOf seen.entries skip) }
+    ensures ordered { IsOrdered (slice_cmp nat_cmp) seen }
+{
+    let mut sights = Vec::new(alloc);
     for (path, look) in seen {
-        add(alloc, &mut files, path, look, rules)?;
+        add(&mut sights, path, look, skip)?;
     }
-    Ok(Files::new(files))
+    Ok(sights)
 }

@@ -95,6 +95,8 @@ fn owner_of(
 }
 
 impl Owners for HostOwners<'_> {
+    ghost owns = { λ path owner. Unit {0} };
+
     fn owner_at(&mut self, alloc: Global, path: &Path) -> Result<Option<Owner>, OutOfMemory> {
         match self.metadata(alloc, path)? {
             Ok(metadata) => owner_of(

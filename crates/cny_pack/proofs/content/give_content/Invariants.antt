@@ -1,5 +1,5 @@
 use Rattle.std.proofs.Common.{◌≡◌, ◌-◌, ◌≤◌, IsTrue}
-use Rattle.cny_pack.specs.Gives.{Gains}
+use Rattle.cny_pack.specs.Gives.{GivesPiece}
 use Rattle.cny_pack.proofs.content.give_content.Given as goal
 
 abbrev pub decreases-pieces : goal.decreases-pieces
@@ -7,7 +7,7 @@ decreases-pieces g l = l.size - l.at
 
 abbrev pub invariant-pieces : goal.invariant-pieces
 invariant-pieces g l = record {
-  given : Gains (g.S.Sink.sink.written l.fn.out) (g.S.Sink.sink.written l.out) l.at;
+  given : GivesPiece g.D.TreeDisk.disk.tells (g.D.TreeDisk.disk.reads l.fn.disk) l.path 0 l.at (g.S.Sink.sink.written l.fn.out) (g.S.Sink.sink.written l.out);
   within : l.at ≤ l.size;
   same : IsTrue g.D.TreeDisk.disk.tells → g.D.TreeDisk.disk.reads l.disk ≡ g.D.TreeDisk.disk.reads l.fn.disk;
 }

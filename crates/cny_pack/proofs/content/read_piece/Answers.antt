@@ -1,4 +1,8 @@
+use Rattle.cny_pack.proofs.Giving.{read_front}
 use Rattle.cny_pack.proofs.content.read_piece.Goals as goal
+
+pub returns-in-Ok-clause-told : goal.returns-in-Ok-clause-told
+returns-in-Ok-clause-told g c tells = read_front (g.D.TreeDisk.disk.reads c.args.disk.now) c.args.path.now c.args.at c.in-Ok.count c.args.buf.now c.read_at.new.buf (c.in-Ok.ensures.filled tells)
 
 pub returns-in-Ok-clause-same : goal.returns-in-Ok-clause-same
 returns-in-Ok-clause-same g c tells = (c.in-Ok.ensures.tests.same tells).same.reads
