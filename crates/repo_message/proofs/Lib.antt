@@ -1,3 +1,3 @@
-mod IdLists
-mod ItemFaults
+pub mod IdLists
+pub mod ItemFaults
 mod SetReplies

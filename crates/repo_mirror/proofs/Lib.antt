@@ -1,0 +1,4 @@
+pub mod Asked
+mod OneStream
+pub mod SentSets
+mod Taken

@@ -1,0 +1,10 @@
+mod AnswersLaws
+mod Absolute
+mod PlacedIds
+mod StoredReplies
+mod NextItems
+mod Advancing
+mod Progress
+mod WholeStreams
+mod OneReply
+mod OneAnswer

@@ -1,0 +1,6 @@
+pub mod Reply
+pub mod Replies
+pub mod Answers
+pub mod Serving
+pub mod Room
+pub mod Steps

@@ -1,0 +1,89 @@
+//! The reply with a content.
+ghost use Rattle.std.specs.Prelude.{◌≡◌, ◌+◌, ◌++◌, ◌≤◌, IfOk, IsTrue, List, OnOk, length, ℕ};
+ghost use Rattle.cny_stream.specs.Item.{item_bytes};
+ghost use Rattle.repo_load.specs.cny-base.declared.limits.TheConstants.{MESSAGE_LIMIT};
+ghost use Rattle.repo_load.specs.Files.{HoldsCatalogue};
+ghost use Rattle.repo_message.specs.declared.request.Request.TheVariants.{Content};
+ghost use Rattle.repo_serve.specs.Answers.{Answers};
+ghost use Rattle.repo_serve.specs.Reply.{content_reply};
+ghost use Rattle.repo_serve.specs.Serving.{IsDamagedFor};
+ghost use Rattle.repo_serve.specs.Steps.{IsReplyOf, IsUnansweredOf};
+
+use crate::room::{sum_of, with_reply};
+use cny_stream::{close_item, open_item, put_item};
+use repo_index::Catalogue;
+use repo_load::cny_base::{Bytes, OutOfMemory, Stop};
+use repo_load::tree_disk::TreeDisk;
+use repo_load::{content, stored_state};
+use std::alloc::Global;
+
+// The tag of a reply with a content.
+const FOUND: u8 = 0x81;
+
+// The tag of a reply that there is none.
+const NONE: u8 = 0x82;
+
+// The head of the item, and the name.
+const HEAD_LEN: u64 = 25;
+
+// The length of the reply with what was found.
+fn reply_len(found: &Option<Bytes>) -> Result<u64, OutOfMemory>
+    ensures { (name : List ℕ) → length name ≡ 20 → IfOk result (λ len. len ≡ length (content_reply name found.now)) }
+{
+    match found {
+        Some(bytes) => sum_of(HEAD_LEN, bytes.get().len() as u64),
+        None => Ok(HEAD_LEN),
+    }
+}
+
+// Appends the name and the bytes of a content.
+fn put_named(out: &mut Bytes, name: &[u8; 20], bytes: &Bytes) -> Result<(), OutOfMemory>
+    ensures { OnOk result (out.new ≡ out.old ++ (name.now ++ bytes.now)) }
+{
+    out.push_slice(name)?;
+    out.push_slice(bytes.get())?;
+    Ok(())
+}
+
+// Appends the item of a content.
+fn put_content(out: &mut Bytes, name: &[u8; 20], bytes: &Bytes) -> Result<(), OutOfMemory>
+    requires { length (name.now ++ bytes.now) ≤ MESSAGE_LIMIT }
+    ensures { OnOk result (out.new ≡ out.old ++ item_bytes 0x81 (name.now ++ bytes.now)) }
+{
+    let begun = open_item(out, FOUND)?;
+    let put = put_named(out, name, bytes);
+    close_item(out, begun, put)
+}
+
+// The reply with what was found.
+fn reply_with(alloc: Global, name: &[u8; 20], found: &Option<Bytes>) -> Result<Bytes, OutOfMemory>
+    requires { length (content_reply name.now found.now) ≤ MESSAGE_LIMIT }
+    ensures { IfOk result (λ reply. reply ≡ content_reply name.now found.now) }
+{
+    let mut out = Bytes::new(alloc, b"")?;
+    match found {
+        Some(bytes) => put_content(&mut out, name, bytes)?,
+        None => put_item(&mut out, NONE, name)?,
+    }
+    Ok(out)
+}
+
+/// The reply with the content of a name, behind replies whose stream with its end has so many bytes. `TooLarge` where it would make
+/// that longer than a message may be, and then it isn't made.
+pub(crate) fn content_of<D: TreeDisk>(
+    alloc: Global,
+    disk: &mut D,
+    catalogue: &Catalogue,
+    name: &[u8; 20],
+    sent: u64,
+) -> Result<Bytes, Stop>
+    requires { IsTrue D.disk.tells → HoldsCatalogue (D.disk.reads disk.old) catalogue.now }
+    ensures answers { Answers D.disk (IsReplyOf (Content name.now)) (IsUnansweredOf (Content name.now) sent)
+        (IsDamagedFor catalogue.now.troves (Content name.now)) disk.old disk.new result }
+    ensures room { IfOk result (λ reply. sent + length reply ≤ MESSAGE_LIMIT) }
+{
+    stored_state();
+    let found = content(alloc, disk, catalogue, name)?;
+    with_reply(sent, reply_len(&found)?)?;
+    Ok(reply_with(alloc, name, &found)?)
+}

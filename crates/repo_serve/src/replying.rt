@@ -1,0 +1,59 @@
+//! The reply to a request.
+ghost use Rattle.std.specs.Prelude.{◌+◌, ◌≤◌, IfOk, IsTrue, length};
+ghost use Rattle.repo_load.specs.cny-base.declared.limits.TheConstants.{MESSAGE_LIMIT};
+ghost use Rattle.repo_load.specs.Files.{HoldsCatalogue};
+ghost use Rattle.repo_message.specs.Requests.{IsRequest};
+ghost use Rattle.repo_message.specs.declared.request.Request.TheVariants.{Named};
+ghost use Rattle.repo_serve.specs.Answers.{Answers};
+ghost use Rattle.repo_serve.specs.Serving.{IsDamagedFor};
+ghost use Rattle.repo_serve.specs.Steps.{IsReplyOf, IsUnansweredOf};
+
+use crate::contents::content_of;
+use crate::ids::named;
+use crate::sets::missing_of;
+use repo_index::Catalogue;
+use repo_load::cny_base::{Bytes, Name, Stop};
+use repo_load::stored_state;
+use repo_load::tree_disk::TreeDisk;
+use repo_message::Request;
+use std::alloc::Global;
+
+// The reply with the ids of a name. The disk isn't asked.
+fn named_on<D: TreeDisk>(
+    alloc: Global,
+    disk: &mut D,
+    catalogue: &Catalogue,
+    name: &Name,
+    sent: u64,
+) -> Result<Bytes, Stop>
+    requires { IsTrue D.disk.tells → HoldsCatalogue (D.disk.reads disk.old) catalogue.now }
+    ensures answers { Answers D.disk (IsReplyOf (Named name.now)) (IsUnansweredOf (Named name.now) sent)
+        (IsDamagedFor catalogue.now.troves (Named name.now)) disk.old disk.new result }
+    ensures room { IfOk result (λ reply. sent + length reply ≤ MESSAGE_LIMIT) }
+{
+    stored_state();
+    let _disk = disk;
+    Ok(named(alloc, catalogue, name, sent)?)
+}
+
+/// The reply to a request, behind replies whose stream with its end has so many bytes. `TooLarge` where there is none: what is missing
+/// is too much to be sent, or the reply would make that stream longer than a message may be.
+pub(crate) fn reply_to<D: TreeDisk>(
+    alloc: Global,
+    disk: &mut D,
+    catalogue: &Catalogue,
+    request: &Request,
+    sent: u64,
+) -> Result<Bytes, Stop>
+    requires valid { IsRequest request.now }
+    requires holds { IsTrue D.disk.tells → HoldsCatalogue (D.disk.reads disk.old) catalogue.now }
+    ensures answers { Answers D.disk (IsReplyOf request.now) (IsUnansweredOf request.now sent)
+        (IsDamagedFor catalogue.now.troves request.now) disk.old disk.new result }
+    ensures room { IfOk result (λ reply. sent + length reply ≤ MESSAGE_LIMIT) }
+{
+    match request {
+        Request::Named(name) => named_on(alloc, disk, catalogue, name, sent),
+        Request::Content(name) => content_of(alloc, disk, catalogue, name, sent),
+        Request::Missing(ids) => missing_of(alloc, disk, catalogue, ids.get(), sent),
+    }
+}
