@@ -18,7 +18,7 @@ mod writing;
 pub use cny_laws::system_core::{
     change_set, cny_base, content_store, tree_disk, trove_parts, trove_stream,
 };
-pub use cny_laws::{Failure, Opened};
+pub use cny_laws::{Failure, Opened, system_core};
 pub use input::read_given;
 pub use laws::store_laws;
 pub use opening::open_disks;

@@ -1,9 +1,9 @@
 -- Bytes that are no batch.
 use Rattle.std.proofs.Common.{ℕ, List}
-use Rattle.cli_call.specs.cny-base.declared.refusal.Fault.{Fault}
-use Rattle.cli_call.specs.cny-base.declared.refusal.Fault.TheVariants as fault
+use Rattle.root_commands.specs.cli-call.cny-base.declared.refusal.Fault.{Fault}
+use Rattle.root_commands.specs.cli-call.cny-base.declared.refusal.Fault.TheVariants as fault
 use Rattle.cny_batch.specs.FirstFault.{IsFaultOf}
-use Rattle.cli_call.specs.cny-laws.Failures.{failure_of_fault}
+use Rattle.root_commands.specs.cli-call.cny-laws.Failures.{failure_of_fault}
 use Rattle.conary_cli.specs.RunsSeveral.{MakesNone}
 use Rattle.conary_cli.specs.Several.{AreBatchLines}
 

@@ -1,22 +1,22 @@
 -- A call of a command, from its steps.
 use Rattle.std.proofs.Common.{◌≡◌, ℕ, ◌≤◌, Bool, List, Result, Ok, Err, refl, sym, subst, inl, inr, ⊎_elim, arith}
 use Rattle.cny_flow.specs.Flow.{SourceState, SinkState}
-use Rattle.cli_call.specs.tree-disk.Disk.{DiskModel, IsDisk}
-use Rattle.cli_call.specs.cny-laws.declared.failure.Failure.{Failure}
-use Rattle.cli_call.specs.cny-laws.declared.failure.Failure.TheVariants as failure
-use Rattle.cli_call.specs.cny-laws.Call.{CallState}
-use Rattle.cli_call.specs.Runs.{RunsOpen}
-use Rattle.cli_call.proofs.CallLaws.{whole_call}
-use Rattle.cli_call.specs.Line.{Moment, RunsLine}
-use Rattle.cli_call.specs.cny-laws.Reading.{ReadsGiven}
-use Rattle.cli_call.specs.cny-laws.Report.{End, Reports, status_of}
-use Rattle.cli_call.specs.cny-laws.State.{Meaning, Scope}
-use Rattle.cli_call.specs.cny-laws.Store.{IsStore}
-use Rattle.cli_call.specs.cny-laws.Stores.{repository_store}
-use Rattle.conary_cli.specs.declared.words.Command.{Command}
+use Rattle.root_commands.specs.cli-call.tree-disk.Disk.{DiskModel, IsDisk}
+use Rattle.root_commands.specs.cli-call.cny-laws.declared.failure.Failure.{Failure}
+use Rattle.root_commands.specs.cli-call.cny-laws.declared.failure.Failure.TheVariants as failure
+use Rattle.root_commands.specs.cli-call.cny-laws.Call.{CallState}
+use Rattle.root_commands.specs.cli-call.Runs.{RunsOpen}
+use Rattle.root_commands.proofs.cli-call.CallLaws.{whole_call}
+use Rattle.root_commands.specs.cli-call.Line.{Moment, RunsLine}
+use Rattle.root_commands.specs.cli-call.cny-laws.Reading.{ReadsGiven}
+use Rattle.root_commands.specs.cli-call.cny-laws.Report.{End, Reports, status_of}
+use Rattle.root_commands.specs.cli-call.cny-laws.State.{Meaning, Scope}
+use Rattle.root_commands.specs.cli-call.cny-laws.Store.{IsStore}
+use Rattle.root_commands.specs.cli-call.cny-laws.Stores.{repository_store}
+use Rattle.cli_words.specs.declared.words.Command.{Command}
 use Rattle.conary_cli.specs.Commands.{meaning, scope_of, RunsWords, RunsSome, IsWholeCall, IsSomeCall}
 use Rattle.conary_cli.specs.Records.{EndsOpened}
-use Rattle.conary_cli.specs.Words.{AreWords, OrMemory}
+use Rattle.cli_words.specs.Words.{AreWords, OrMemory}
 use Rattle.conary_cli.proofs.RestoreEnds.{rollback_restores}
 
 module _ {T P : Type 0} {root_disk : DiskModel T} {repo_disk : DiskModel P} (scope : Scope) (m : Meaning) (takes : Bool) (old new : SourceState) where

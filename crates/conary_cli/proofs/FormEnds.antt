@@ -2,35 +2,35 @@
 use Rattle.std.proofs.Common.{◌≡◌, ℕ, ◌+◌, ◌≤◌, Bool, true, cond, List, length, Result, Ok, Err, refl, sym, ap, ◌∙◌, subst, inl, inr, ⊎_elim, arith}
 use Rattle.std.specs.Prelude.{◌⊎◌}
 use Rattle.std.proofs.lemmas.Bool.{le-ltb}
-use Rattle.cli_call.specs.cny-base.declared.options.Options.{Options}
-use Rattle.cli_call.specs.cny-base.declared.refusal.Refusal.{Refusal}
-use Rattle.cli_call.specs.cny-base.declared.refusal.Refusal.TheVariants as refusal
-use Rattle.cli_call.specs.cny-base.declared.refusal.What.TheVariants.{Input}
+use Rattle.root_commands.specs.cli-call.cny-base.declared.options.Options.{Options}
+use Rattle.root_commands.specs.cli-call.cny-base.declared.refusal.Refusal.{Refusal}
+use Rattle.root_commands.specs.cli-call.cny-base.declared.refusal.Refusal.TheVariants as refusal
+use Rattle.root_commands.specs.cli-call.cny-base.declared.refusal.What.TheVariants.{Input}
 use Rattle.cny_flow.specs.Flow.{SinkState}
 use Rattle.cny_manifest.specs.declared.made.Made.{Made}
 use Rattle.cny_manifest.specs.FirstFault as manifest_fault
 use Rattle.cny_manifest.specs.Makes.{Makes}
-use Rattle.cli_call.specs.tree-disk.Disk.{DiskModel}
-use Rattle.cli_call.specs.change-set.declared.change.ChangeSet.{ChangeSet}
-use Rattle.cli_call.specs.change-set.ChangeSet.{IsSetStream}
-use Rattle.cli_call.specs.cny-laws.Call.{CallState, StopsForRepository}
-use Rattle.cli_call.specs.system-core.FixedDirs.{fixed_dirs}
-use Rattle.cli_call.specs.cny-laws.Input.{input_limit, within_limit}
-use Rattle.cli_call.specs.cny-laws.Reading.{given}
-use Rattle.cli_call.specs.cny-laws.State.{State, Effect, Meaning, tree_of, Then}
-use Rattle.cli_call.specs.cny-laws.Report.{End, status_of}
-use Rattle.cli_call.specs.cny-laws.Store.{RestsAt}
-use Rattle.cli_call.specs.cny-laws.Stores.{root_store}
-use Rattle.cli_call.specs.cny-laws.WholeCall.{CallEnds, FromRoots, FromStates, HasEffect, IsCall, Outcome, RestBoth}
-use Rattle.cli_call.specs.cny-laws.declared.failure.Failure.TheVariants as failure
-use Rattle.conary_cli.specs.declared.words.Command.{Command}
-use Rattle.conary_cli.specs.declared.words.Command.TheVariants as command
+use Rattle.root_commands.specs.cli-call.tree-disk.Disk.{DiskModel}
+use Rattle.root_commands.specs.cli-call.change-set.declared.change.ChangeSet.{ChangeSet}
+use Rattle.root_commands.specs.cli-call.change-set.ChangeSet.{IsSetStream}
+use Rattle.root_commands.specs.cli-call.cny-laws.Call.{CallState, StopsForRepository}
+use Rattle.root_commands.specs.cli-call.system-core.FixedDirs.{fixed_dirs}
+use Rattle.root_commands.specs.cli-call.cny-laws.Input.{input_limit, within_limit}
+use Rattle.root_commands.specs.cli-call.cny-laws.Reading.{given}
+use Rattle.root_commands.specs.cli-call.cny-laws.State.{State, Effect, Meaning, tree_of, Then}
+use Rattle.root_commands.specs.cli-call.cny-laws.Report.{End, status_of}
+use Rattle.root_commands.specs.cli-call.cny-laws.Store.{RestsAt}
+use Rattle.root_commands.specs.cli-call.cny-laws.Stores.{root_store}
+use Rattle.root_commands.specs.cli-call.cny-laws.WholeCall.{CallEnds, FromRoots, FromStates, HasEffect, IsCall, Outcome, RestBoth}
+use Rattle.root_commands.specs.cli-call.cny-laws.declared.failure.Failure.TheVariants as failure
+use Rattle.cli_words.specs.declared.words.Command.{Command}
+use Rattle.cli_words.specs.declared.words.Command.TheVariants as command
 use Rattle.conary_cli.specs.Commands.{meaning, is_of_root, scope_of}
 use Rattle.conary_cli.specs.FormDecides.{HasEnd, DecidesForm, DecidesSet, DecidesUpdate, FormDecides, IsCallAnswered, IsCallAnsweredOnRoot}
 use Rattle.root_commands.specs.Install.{first_reserved, InstallsMade, UnlessReserved, install}
 use Rattle.root_commands.specs.Update.{UpdatesBy, update_input}
-use Rattle.cli_call.specs.ManifestInput.{OfManifest}
-use Rattle.cli_call.specs.SetInput.{OfChangeSet}
+use Rattle.root_commands.specs.cli-call.ManifestInput.{OfManifest}
+use Rattle.root_commands.specs.cli-call.SetInput.{OfChangeSet}
 use Rattle.repo_commands.specs.ShowChangeSet.{described, IsDescribed, show_change_set}
 
 -- ---- the outcome by the form

@@ -1,24 +1,24 @@
 -- A line by itself: the call of a command whose input is told.
 use Rattle.std.proofs.Common.{◌≡◌, ℕ, Bool, true, false, List, length, Result, Ok, Err, nat_lt, cond, refl, sym, ap, subst, inl, inr, arith}
 use Rattle.std.specs.Prelude.{IsTrue}
-use Rattle.cli_call.specs.cny-base.declared.refusal.Refusal.{Refusal}
-use Rattle.cli_call.specs.cny-laws.declared.failure.Failure.TheVariants as failure
-use Rattle.cli_call.specs.cny-laws.Input.{input_limit, within_limit}
-use Rattle.cli_call.specs.cny-laws.Reading.{ReadsGiven, given, left_by}
-use Rattle.cli_call.specs.tree-disk.Disk.{DiskModel, IsDisk}
+use Rattle.root_commands.specs.cli-call.cny-base.declared.refusal.Refusal.{Refusal}
+use Rattle.root_commands.specs.cli-call.cny-laws.declared.failure.Failure.TheVariants as failure
+use Rattle.root_commands.specs.cli-call.cny-laws.Input.{input_limit, within_limit}
+use Rattle.root_commands.specs.cli-call.cny-laws.Reading.{ReadsGiven, given, left_by}
+use Rattle.root_commands.specs.cli-call.tree-disk.Disk.{DiskModel, IsDisk}
 use Rattle.cny_batch.specs.declared.line.Line.{Line}
-use Rattle.cli_call.specs.cny-laws.declared.failure.Failure.{Failure}
-use Rattle.cli_call.specs.cny-laws.Call.{CallState}
-use Rattle.cli_call.specs.Line.{Moment}
-use Rattle.cli_call.specs.Runs.{RunsCall, RunsOpen}
-use Rattle.cli_call.specs.cny-laws.Report.{End}
-use Rattle.conary_cli.specs.declared.words.Command.{Command}
-use Rattle.cli_call.proofs.CallLaws.{memory_call}
+use Rattle.root_commands.specs.cli-call.cny-laws.declared.failure.Failure.{Failure}
+use Rattle.root_commands.specs.cli-call.cny-laws.Call.{CallState}
+use Rattle.root_commands.specs.cli-call.Line.{Moment}
+use Rattle.root_commands.specs.cli-call.Runs.{RunsCall, RunsOpen}
+use Rattle.root_commands.specs.cli-call.cny-laws.Report.{End}
+use Rattle.cli_words.specs.declared.words.Command.{Command}
+use Rattle.root_commands.proofs.cli-call.CallLaws.{memory_call}
 use Rattle.conary_cli.specs.Commands.{RunsSome, RunsWords, meaning, scope_of}
 use Rattle.conary_cli.specs.Lines.{RunsOf}
 use Rattle.conary_cli.specs.Records.{EndsOpened, EndsWhole}
 use Rattle.conary_cli.specs.Program.{RunsAlone, told_source}
-use Rattle.conary_cli.specs.Words.{AreWords, IsOnly, OrMemory, ReadsWords}
+use Rattle.cli_words.specs.Words.{AreWords, IsOnly, OrMemory, ReadsWords}
 use Rattle.conary_cli.proofs.Calls.{some_unread}
 use Rattle.conary_cli.proofs.RecordEnds.{memory_whole, unread_whole}
 

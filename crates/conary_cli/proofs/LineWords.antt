@@ -2,21 +2,21 @@
 use Rattle.std.proofs.Common.{◌≡◌, ◌<◌, ◌+◌, ℕ, suc, true, false, length, drop, get_or, List, ◌∷◌, Result, Ok, Err, refl, sym, ap, ◌∙◌, subst, inl, inr, arith}
 use Rattle.std.specs.Prelude.{IsTrue, OnOk}
 use lib.Seq.{drop-cons}
-use Rattle.cli_call.specs.tree-disk.Disk.{DiskModel}
+use Rattle.root_commands.specs.cli-call.tree-disk.Disk.{DiskModel}
 use Rattle.cny_batch.specs.declared.line.Line.{Line}
 use Rattle.cny_flow.specs.Flow.{SourceState, SinkState}
-use Rattle.cli_call.specs.Command.{AreReady, Disks}
-use Rattle.cli_call.specs.cny-laws.Call.{CallState}
-use Rattle.cli_call.specs.Line.{Moment, RunsLine}
-use Rattle.cli_call.specs.cny-laws.declared.failure.Failure.{Failure}
-use Rattle.cli_call.specs.cny-laws.declared.failure.Failure.TheVariants as failure
-use Rattle.cli_call.specs.cny-laws.Report.{End}
-use Rattle.conary_cli.specs.declared.words.Command.{Command}
+use Rattle.root_commands.specs.cli-call.Command.{AreReady, Disks}
+use Rattle.root_commands.specs.cli-call.cny-laws.Call.{CallState}
+use Rattle.root_commands.specs.cli-call.Line.{Moment, RunsLine}
+use Rattle.root_commands.specs.cli-call.cny-laws.declared.failure.Failure.{Failure}
+use Rattle.root_commands.specs.cli-call.cny-laws.declared.failure.Failure.TheVariants as failure
+use Rattle.root_commands.specs.cli-call.cny-laws.Report.{End}
+use Rattle.cli_words.specs.declared.words.Command.{Command}
 use Rattle.conary_cli.specs.Commands.{meaning, scope_of}
 use Rattle.conary_cli.specs.Lines.{CallLine, GivesOf, RunsOf, RunsOne, all_shown, shown_as}
 use Rattle.conary_cli.specs.Records.{EndsWhole}
 use Rattle.conary_cli.proofs.RestoreEnds.{line_restores}
-use Rattle.conary_cli.specs.Words.{AreWords, IsOnly, OrMemory, ReadsWords}
+use Rattle.cli_words.specs.Words.{AreWords, IsOnly, OrMemory, ReadsWords}
 
 -- the disks at a moment, with an output beside them
 abbrev pub at_out : {T P : Type 0} → Disks T P → SinkState → Moment T P

@@ -2,32 +2,32 @@
 use Rattle.std.proofs.Common.{◌≡◌, ◌≤◌, ℕ, Bool, true, false, List, [], ◌∷◌, Result, Ok, Err, refl, sym, ap, ◌∙◌, subst, inl, inr, arith}
 use Rattle.std.specs.Prelude.{IsTrue}
 use Rattle.cny_flow.specs.Flow.{SinkState}
-use Rattle.cli_call.specs.cny-base.Count.{Rose}
-use Rattle.cli_call.specs.cny-base.declared.refusal.Refusal.{Refusal}
-use Rattle.cli_call.specs.tree-disk.Disk.{DiskModel, IsDisk, HasRead}
-use Rattle.cli_call.specs.tree-disk.Clear.{is_within}
-use Rattle.cli_call.specs.tree-disk.Confined.{Among, Confined}
-use Rattle.cli_call.proofs.tree-disk.ConfinedLaws.{confined_start, confined_then, leaves_weaker}
-use Rattle.cli_call.proofs.tree-disk.Moments.{rose_before}
+use Rattle.root_commands.specs.cli-call.cny-base.Count.{Rose}
+use Rattle.root_commands.specs.cli-call.cny-base.declared.refusal.Refusal.{Refusal}
+use Rattle.root_commands.specs.cli-call.tree-disk.Disk.{DiskModel, IsDisk, HasRead}
+use Rattle.root_commands.specs.cli-call.tree-disk.Clear.{is_within}
+use Rattle.root_commands.specs.cli-call.tree-disk.Confined.{Among, Confined}
+use Rattle.root_commands.proofs.cli-call.tree-disk.ConfinedLaws.{confined_start, confined_then, leaves_weaker}
+use Rattle.root_commands.proofs.cli-call.tree-disk.Moments.{rose_before}
 use Rattle.repo_load.specs.Files.{repository_base}
-use Rattle.cli_call.specs.Command.{AreReady, Goes, HasDamage, Rest, StandsFor}
-use Rattle.cli_call.specs.Line.{EndsWriting, Moment, LineCause}
-use Rattle.cli_call.specs.cny-laws.declared.failure.Failure.{Failure}
-use Rattle.cli_call.specs.cny-laws.declared.failure.Failure.TheVariants as failure
-use Rattle.cli_call.specs.cny-laws.Reading.{given}
-use Rattle.cli_call.specs.cny-laws.Report.{End, MustBeTold, status_of}
-use Rattle.cli_call.specs.cny-laws.State.{State, Effect, Meaning, OneDisk, Then}
-use Rattle.cli_call.specs.cny-laws.Store.{IsStore, OneOf, Recovers, RestsAt}
-use Rattle.cli_call.specs.cny-laws.Stores.{root_store, repository_store}
-use Rattle.cli_call.proofs.CommandLaws.{goes_read, next_more, takes_more}
-use Rattle.cli_call.proofs.LineLaws.{keeps_still}
-use Rattle.cli_call.proofs.RootLaws.{root_laws}
-use Rattle.cli_call.proofs.StoreLaws.{nothing_done, rest_lives, rest_reads}
-use Rattle.conary_cli.specs.declared.words.Command.{Command}
+use Rattle.root_commands.specs.cli-call.Command.{AreReady, Goes, HasDamage, Rest, StandsFor}
+use Rattle.root_commands.specs.cli-call.Line.{EndsWriting, Moment, LineCause}
+use Rattle.root_commands.specs.cli-call.cny-laws.declared.failure.Failure.{Failure}
+use Rattle.root_commands.specs.cli-call.cny-laws.declared.failure.Failure.TheVariants as failure
+use Rattle.root_commands.specs.cli-call.cny-laws.Reading.{given}
+use Rattle.root_commands.specs.cli-call.cny-laws.Report.{End, MustBeTold, status_of}
+use Rattle.root_commands.specs.cli-call.cny-laws.State.{State, Effect, Meaning, OneDisk, Then}
+use Rattle.root_commands.specs.cli-call.cny-laws.Store.{IsStore, OneOf, Recovers, RestsAt}
+use Rattle.root_commands.specs.cli-call.cny-laws.Stores.{root_store, repository_store}
+use Rattle.root_commands.proofs.cli-call.CommandLaws.{goes_read, next_more, takes_more}
+use Rattle.root_commands.proofs.cli-call.LineLaws.{keeps_still}
+use Rattle.root_commands.proofs.cli-call.RootLaws.{root_laws}
+use Rattle.root_commands.proofs.cli-call.StoreLaws.{nothing_done, rest_lives, rest_reads}
+use Rattle.cli_words.specs.declared.words.Command.{Command}
 use Rattle.conary_cli.specs.Commands.{meaning}
 use Rattle.conary_cli.specs.Lines.{CallLine, EndsOne, LineOutcome, LinesEnd, RunsLines, RunsOf, RunsOne, shown_as}
 use Rattle.conary_cli.specs.Lives.{LiveBoth, LiveStep, before_last, last_state}
-use Rattle.conary_cli.specs.Words.{AreWords, IsOnly}
+use Rattle.cli_words.specs.Words.{AreWords, IsOnly}
 use Rattle.conary_cli.proofs.Living.{live_first, repo_reads_on, root_reads_on}
 
 -- ---- outcomes

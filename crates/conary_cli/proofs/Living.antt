@@ -1,11 +1,11 @@
 -- How a list of states that both disks lived goes on.
 use Rattle.std.proofs.Common.{List, [], ◌∷◌, inr, ⊎_elim}
-use Rattle.cli_call.specs.tree-disk.Tree.{Tree}
-use Rattle.cli_call.specs.tree-disk.Disk.{DiskModel}
-use Rattle.cli_call.proofs.tree-disk.ConfinedLaws.{leaves_then, leaves_weaker}
-use Rattle.cli_call.specs.cny-laws.State.{State}
-use Rattle.cli_call.specs.cny-laws.Store.{OneOf}
-use Rattle.cli_call.specs.cny-laws.Stores.{root_store, repository_store}
+use Rattle.root_commands.specs.cli-call.tree-disk.Tree.{Tree}
+use Rattle.root_commands.specs.cli-call.tree-disk.Disk.{DiskModel}
+use Rattle.root_commands.proofs.cli-call.tree-disk.ConfinedLaws.{leaves_then, leaves_weaker}
+use Rattle.root_commands.specs.cli-call.cny-laws.State.{State}
+use Rattle.root_commands.specs.cli-call.cny-laws.Store.{OneOf}
+use Rattle.root_commands.specs.cli-call.cny-laws.Stores.{root_store, repository_store}
 use Rattle.conary_cli.specs.Lives.{LiveBoth, LiveStep, before_last, last_state}
 
 -- a step from a state to the next, and a list that begins with that

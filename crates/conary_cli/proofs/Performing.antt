@@ -2,18 +2,18 @@
 use Rattle.std.proofs.Common.{◌≡◌, ℕ, Bool, true, false, List, Result, ap, refl, subst, sym, ◌∙◌}
 use Rattle.std.specs.Prelude.{IsTrue, OnOk}
 use Rattle.std.proofs.lemmas.Bool.{false≢true}
-use Rattle.cli_call.specs.tree-disk.Disk.{DiskModel, HasRead, IsDisk, Reads}
-use Rattle.cli_call.specs.content-store.Store.{stored}
+use Rattle.root_commands.specs.cli-call.tree-disk.Disk.{DiskModel, HasRead, IsDisk, Reads}
+use Rattle.root_commands.specs.cli-call.content-store.Store.{stored}
 use Rattle.repo_load.specs.Files.{contents_dir}
-use Rattle.cli_call.specs.cny-laws.Call.{ContentsStay}
-use Rattle.cli_call.specs.cny-laws.declared.failure.Failure.{Failure}
-use Rattle.cli_call.specs.Alone.{ActsOnRepository, AnswersByLists, AnswersByOpened, AnswersByTree, PerformsAlone}
-use Rattle.cli_call.specs.Command.{AreReady, Disks, Performs}
-use Rattle.cli_call.proofs.CommandLaws.{acts_performed}
-use Rattle.cli_call.proofs.RootLaws.{root_laws}
-use Rattle.cli_call.proofs.StoreLaws.{nothing_done}
+use Rattle.root_commands.specs.cli-call.cny-laws.Call.{ContentsStay}
+use Rattle.root_commands.specs.cli-call.cny-laws.declared.failure.Failure.{Failure}
+use Rattle.root_commands.specs.cli-call.Alone.{ActsOnRepository, AnswersByLists, AnswersByOpened, AnswersByTree, PerformsAlone}
+use Rattle.root_commands.specs.cli-call.Command.{AreReady, Disks, Performs}
+use Rattle.root_commands.proofs.cli-call.CommandLaws.{acts_performed}
+use Rattle.root_commands.proofs.cli-call.RootLaws.{root_laws}
+use Rattle.root_commands.proofs.cli-call.StoreLaws.{nothing_done}
 use Rattle.root_commands.specs.Records.{NoneIs}
-use Rattle.conary_cli.specs.declared.words.Command.{Command}
+use Rattle.cli_words.specs.declared.words.Command.{Command}
 use Rattle.conary_cli.specs.Commands.{is_of_lists, is_of_opened, is_of_repository, is_of_root, is_of_tree, meaning, reads_repository, reads_root, PerformsCommand}
 use Rattle.conary_cli.specs.Records.{EndsWhole, IsDamagedFirst, IsDamagedFor}
 use Rattle.conary_cli.proofs.RecordEnds.{none_read}
@@ -151,6 +151,11 @@ module _ {T P : Type 0} {root_disk : DiskModel T} {repo_disk : DiskModel P} (roo
   pub on_catalogue : AreReady root_disk repo_disk old → (c : Command) → is_of_root c ≡ false → is_of_tree c ≡ false → is_of_opened c ≡ false → ActsOnRepository root_disk repo_disk (meaning c) input old new result → AnswersByLists root_disk repo_disk (meaning c) input old new result
       → ReadsNone c → RefusedNone c → PerformsCommand root_disk repo_disk c input old new result
   on_catalogue ready c off none shut acts lists reads refused = all_of_repository ready c off none shut acts (λ is. lists) (λ is. untouched repo_disk_laws old.repo new.repo lists.repo) reads refused
+
+  -- of one that reads its contents
+  pub on_contents : AreReady root_disk repo_disk old → (c : Command) → is_of_root c ≡ false → is_of_tree c ≡ false → is_of_opened c ≡ false → is_of_lists c ≡ false → ActsOnRepository root_disk repo_disk (meaning c) input old new result → RepoRead
+      → ReadsNone c → RefusedNone c → PerformsCommand root_disk repo_disk c input old new result
+  on_contents ready c off none shut none' acts read reads refused = all_of_repository ready c off none shut acts (λ is. never (is_of_lists c) none' is) (λ is. read) reads refused
 
   -- on both
   pub on_both : (c : Command) → is_of_root c ≡ false → is_of_repository c ≡ false → is_of_lists c ≡ false → is_of_tree c ≡ false → ByOpened c → (is_of_opened c ≡ true → ContentsStay repo_disk old.repo new.repo) → Performs root_disk repo_disk (meaning c) input old new result → (reads_root c ≡ true → RootRead)

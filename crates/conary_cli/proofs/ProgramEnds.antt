@@ -1,15 +1,15 @@
 -- A call of the program, from its steps.
 use Rattle.std.proofs.Common.{◌≤◌, ℕ, true, false, List, Result, Ok, Err, subst, inl, inr, ⊎_elim}
 use Rattle.cny_flow.specs.Flow.{SinkState}
-use Rattle.cli_call.specs.tree-disk.Disk.{DiskModel, IsDisk}
-use Rattle.cli_call.specs.cny-laws.declared.failure.Failure.{Failure}
-use Rattle.cli_call.specs.cny-laws.declared.failure.Failure.TheVariants as failure
-use Rattle.cli_call.specs.cny-laws.Call.{CallState}
-use Rattle.cli_call.specs.cny-laws.Report.{End, Reports}
-use Rattle.cli_call.specs.cny-laws.Store.{IsStore}
-use Rattle.cli_call.specs.cny-laws.Stores.{repository_store}
-use Rattle.conary_cli.specs.declared.call_words.Call.{Call}
-use Rattle.conary_cli.specs.declared.call_words.Call.TheVariants as call
+use Rattle.root_commands.specs.cli-call.tree-disk.Disk.{DiskModel, IsDisk}
+use Rattle.root_commands.specs.cli-call.cny-laws.declared.failure.Failure.{Failure}
+use Rattle.root_commands.specs.cli-call.cny-laws.declared.failure.Failure.TheVariants as failure
+use Rattle.root_commands.specs.cli-call.cny-laws.Call.{CallState}
+use Rattle.root_commands.specs.cli-call.cny-laws.Report.{End, Reports}
+use Rattle.root_commands.specs.cli-call.cny-laws.Store.{IsStore}
+use Rattle.root_commands.specs.cli-call.cny-laws.Stores.{repository_store}
+use Rattle.cli_words.specs.declared.call_words.Call.{Call}
+use Rattle.cli_words.specs.declared.call_words.Call.TheVariants as call
 use Rattle.conary_cli.specs.Program.{IsProgramCall, IsSomething, RunsProgram, RunsSomething}
 use Rattle.conary_cli.specs.Several.{AreBatchLines, AreDemoLines}
 use Rattle.conary_cli.proofs.Calls.{known_status, whole_status, whole_words}

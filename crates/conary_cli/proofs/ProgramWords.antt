@@ -1,14 +1,14 @@
 -- Words that weren't read as a call.
 use Rattle.std.proofs.Common.{◌≡◌, ℕ, List, Result, Ok, Err, refl, sym, ap, inl, inr, true, false}
-use Rattle.cli_call.specs.tree-disk.Disk.{DiskModel, IsDisk}
-use Rattle.cli_call.specs.cny-laws.declared.failure.Failure.{Failure}
-use Rattle.cli_call.specs.cny-laws.declared.failure.Failure.TheVariants as failure
-use Rattle.cli_call.specs.cny-laws.Call.{CallState}
-use Rattle.cli_call.specs.cny-laws.Report.{End}
-use Rattle.cli_call.proofs.CallLaws.{memory_call}
-use Rattle.conary_cli.specs.declared.call_words.Call.{Call}
-use Rattle.conary_cli.specs.declared.call_words.Call.TheVariants as call
-use Rattle.conary_cli.specs.Calls.{AreCall, IsCallOrMemory, ReadsCall}
+use Rattle.root_commands.specs.cli-call.tree-disk.Disk.{DiskModel, IsDisk}
+use Rattle.root_commands.specs.cli-call.cny-laws.declared.failure.Failure.{Failure}
+use Rattle.root_commands.specs.cli-call.cny-laws.declared.failure.Failure.TheVariants as failure
+use Rattle.root_commands.specs.cli-call.cny-laws.Call.{CallState}
+use Rattle.root_commands.specs.cli-call.cny-laws.Report.{End}
+use Rattle.root_commands.proofs.cli-call.CallLaws.{memory_call}
+use Rattle.cli_words.specs.declared.call_words.Call.{Call}
+use Rattle.cli_words.specs.declared.call_words.Call.TheVariants as call
+use Rattle.cli_words.specs.Calls.{AreCall, IsCallOrMemory, ReadsCall}
 use Rattle.conary_cli.specs.Commands.{meaning, scope_of}
 use Rattle.conary_cli.specs.Program.{RunsProgram, RunsSomething}
 use Rattle.conary_cli.specs.Several.{AreBatchLines, AreDemoLines, before_lines, of_input}

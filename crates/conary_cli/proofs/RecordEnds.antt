@@ -1,18 +1,18 @@
 -- No damaged record is passed over by a whole call.
 use Rattle.std.proofs.Common.{◌≡◌, ℕ, Bool, false, List, Result, Ok, Err, refl, sym, subst, arith}
-use Rattle.cli_call.specs.cny-base.declared.refusal.Refusal.{Refusal}
+use Rattle.root_commands.specs.cli-call.cny-base.declared.refusal.Refusal.{Refusal}
 use Rattle.cny_flow.specs.Flow.{SourceState, SinkState}
-use Rattle.cli_call.specs.local-db.declared.db.Db.{Db}
-use Rattle.cli_call.specs.tree-disk.Disk.{DiskModel}
-use Rattle.cli_call.specs.tree-disk.Tree.{Tree}
-use Rattle.cli_call.specs.cny-laws.declared.failure.Failure.{Failure}
-use Rattle.cli_call.specs.cny-laws.declared.failure.Failure.TheVariants as failure
-use Rattle.cli_call.specs.cny-laws.Call.{CallState}
-use Rattle.cli_call.specs.Line.{Wrote}
-use Rattle.cli_call.specs.cny-laws.Reading.{ReadsGiven}
-use Rattle.cli_call.specs.cny-laws.Report.{End}
-use Rattle.conary_cli.specs.declared.words.Command.{Command}
-use Rattle.conary_cli.specs.declared.words.Command.TheVariants as command
+use Rattle.root_commands.specs.cli-call.local-db.declared.db.Db.{Db}
+use Rattle.root_commands.specs.cli-call.tree-disk.Disk.{DiskModel}
+use Rattle.root_commands.specs.cli-call.tree-disk.Tree.{Tree}
+use Rattle.root_commands.specs.cli-call.cny-laws.declared.failure.Failure.{Failure}
+use Rattle.root_commands.specs.cli-call.cny-laws.declared.failure.Failure.TheVariants as failure
+use Rattle.root_commands.specs.cli-call.cny-laws.Call.{CallState}
+use Rattle.root_commands.specs.cli-call.Line.{Wrote}
+use Rattle.root_commands.specs.cli-call.cny-laws.Reading.{ReadsGiven}
+use Rattle.root_commands.specs.cli-call.cny-laws.Report.{End}
+use Rattle.cli_words.specs.declared.words.Command.{Command}
+use Rattle.cli_words.specs.declared.words.Command.TheVariants as command
 use Rattle.root_commands.specs.Records.{NoneIs}
 use Rattle.conary_cli.specs.Commands.{meaning}
 use Rattle.conary_cli.specs.Records.{EndsOpened, EndsWhole, IsDamagedFirst, IsDamagedFor}

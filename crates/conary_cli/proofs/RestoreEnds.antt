@@ -1,38 +1,38 @@
 -- What `rollback` restores, by how its call ended.
 use Rattle.std.proofs.Common.{◌≡◌, ◌≤◌, refl, arith, inl, inr, ⊎_elim, ℕ, Bool, true, false, List, ◌∷◌, ◌++◌, Option, Some, None, Result, Ok, Err, All, Contains, ◌∙◌, ap, subst}
 use Rattle.std.specs.FinMap.{get}
-use Rattle.cli_call.specs.cny-base.declared.refusal.Refusal.{Refusal}
-use Rattle.cli_call.specs.cny-base.declared.refusal.Refusal.TheVariants.{Edited, NoJob, Parent, StackEmpty}
+use Rattle.root_commands.specs.cli-call.cny-base.declared.refusal.Refusal.{Refusal}
+use Rattle.root_commands.specs.cli-call.cny-base.declared.refusal.Refusal.TheVariants.{Edited, NoJob, Parent, StackEmpty}
 use Rattle.cny_flow.specs.Flow.{SinkState}
-use Rattle.cli_call.specs.tree-disk.Tree.{Tree}
-use Rattle.cli_call.specs.tree-disk.Disk.{DiskModel}
-use Rattle.cli_call.specs.local-db.SystemState.{IsStackItem, IsSystemState, StackItem, SystemState, newest}
-use Rattle.cli_call.specs.local-db.Stores.{StoresSystem}
-use Rattle.cli_call.proofs.local-db.Several.{rollbacks_system}
-use Rattle.cli_call.specs.system-core.RestoringAll.{AreRestored, AreUnedited, IsExceptionTo}
-use Rattle.cli_call.specs.system-core.Several.{HasJob, IsRefusalTo, jobs_below, jobs_to, rolled_back_to}
-use Rattle.cli_call.proofs.system-core.Counting.{split_at}
-use Rattle.cli_call.proofs.system-core.OneJob.{has_newest, newest_exception, newest_restored, newest_unedited}
-use Rattle.cli_call.proofs.system-core.Restored.{left_alone, put_into}
-use Rattle.cli_call.proofs.system-core.Sequence.{after_list, after_tree, after_whole}
-use Rattle.cli_call.specs.system-core.FixedDirs.{fixed_dirs}
+use Rattle.root_commands.specs.cli-call.tree-disk.Tree.{Tree}
+use Rattle.root_commands.specs.cli-call.tree-disk.Disk.{DiskModel}
+use Rattle.root_commands.specs.cli-call.local-db.SystemState.{IsStackItem, IsSystemState, StackItem, SystemState, newest}
+use Rattle.root_commands.specs.cli-call.local-db.Stores.{StoresSystem}
+use Rattle.root_commands.proofs.cli-call.local-db.Several.{rollbacks_system}
+use Rattle.root_commands.specs.cli-call.system-core.RestoringAll.{AreRestored, AreUnedited, IsExceptionTo}
+use Rattle.root_commands.specs.cli-call.system-core.Several.{HasJob, IsRefusalTo, jobs_below, jobs_to, rolled_back_to}
+use Rattle.root_commands.proofs.cli-call.system-core.Counting.{split_at}
+use Rattle.root_commands.proofs.cli-call.system-core.OneJob.{has_newest, newest_exception, newest_restored, newest_unedited}
+use Rattle.root_commands.proofs.cli-call.system-core.Restored.{left_alone, put_into}
+use Rattle.root_commands.proofs.cli-call.system-core.Sequence.{after_list, after_tree, after_whole}
+use Rattle.root_commands.specs.cli-call.system-core.FixedDirs.{fixed_dirs}
 use Rattle.root_commands.specs.RollingBack.{TakesBackTo, roll_back, take_back}
-use Rattle.cli_call.specs.Line.{EndsWriting, Moment, RunsLine}
-use Rattle.cli_call.specs.cny-laws.Call.{CallState}
-use Rattle.cli_call.specs.cny-laws.Reading.{given}
-use Rattle.cli_call.specs.cny-laws.State.{on_root, Change, Effect, Meaning, State, Then, after, tree_of}
-use Rattle.cli_call.specs.cny-laws.Store.{RestsAt}
-use Rattle.cli_call.specs.cny-laws.Stores.{root_store}
-use Rattle.cli_call.specs.cny-laws.declared.failure.Failure.TheVariants as failure
-use Rattle.cli_call.specs.cny-laws.Report.{End, status_of}
-use Rattle.cli_call.specs.cny-laws.WholeCall.{CallEnds, HasEffect, IsCall, Outcome}
-use Rattle.conary_cli.specs.declared.words.Command.{Command}
+use Rattle.root_commands.specs.cli-call.Line.{EndsWriting, Moment, RunsLine}
+use Rattle.root_commands.specs.cli-call.cny-laws.Call.{CallState}
+use Rattle.root_commands.specs.cli-call.cny-laws.Reading.{given}
+use Rattle.root_commands.specs.cli-call.cny-laws.State.{on_root, Change, Effect, Meaning, State, Then, after, tree_of}
+use Rattle.root_commands.specs.cli-call.cny-laws.Store.{RestsAt}
+use Rattle.root_commands.specs.cli-call.cny-laws.Stores.{root_store}
+use Rattle.root_commands.specs.cli-call.cny-laws.declared.failure.Failure.TheVariants as failure
+use Rattle.root_commands.specs.cli-call.cny-laws.Report.{End, status_of}
+use Rattle.root_commands.specs.cli-call.cny-laws.WholeCall.{CallEnds, HasEffect, IsCall, Outcome}
+use Rattle.cli_words.specs.declared.words.Command.{Command}
 use Rattle.conary_cli.specs.Commands.{is_of_root, meaning, scope_of}
 use Rattle.conary_cli.specs.Lines.{shown_as, unshown_outcome}
 use Rattle.conary_cli.specs.Restores.{LineRestores, RestoresBy, RestoresNewest, RestoresDownTo, RollbackRestores}
-use Rattle.cli_call.specs.system-core.Job.{db_of}
+use Rattle.root_commands.specs.cli-call.system-core.Job.{db_of}
 use Rattle.cny_version.proofs.cny-base.Lists.{left_all as all_front, all_at as all_middle, nothing_in}
-use Rattle.cli_call.proofs.system-core.Systems.{managed_so as managed}
+use Rattle.root_commands.proofs.cli-call.system-core.Systems.{managed_so as managed}
 
 -- ---- what a root stores, in either format
 

@@ -2,33 +2,33 @@
 use Rattle.std.proofs.Common.{◌≡◌, ℕ, Bool, false, List, [], Ok, Err, refl, sym, subst, inl, inr, ⊎_elim, arith}
 use Rattle.std.specs.Prelude.{◌⊎◌}
 use Rattle.cny_flow.specs.Flow.{SourceState, SinkState}
-use Rattle.cli_call.specs.tree-disk.Disk.{DiskModel, IsDisk}
-use Rattle.cli_call.proofs.tree-disk.Moments.{rose_before}
-use Rattle.cli_call.specs.Alone.{AnswersByLists, PerformsAlone, PerformsWithin}
-use Rattle.cli_call.specs.Command.{AreReady, Performs, disks}
-use Rattle.cli_call.specs.Line.{Moment, RunsLine}
-use Rattle.cli_call.specs.Runs.{RunsCall, after_opening}
-use Rattle.cli_call.proofs.BlockedEnds.{as_pair, as_record}
-use Rattle.cli_call.proofs.CallLaws.{opened_ready, whole_call}
-use Rattle.cli_call.proofs.CommandLaws.{none_read, performs_reading}
-use Rattle.cli_call.proofs.InputLaws.{read_input_of}
-use Rattle.cli_call.proofs.LineLaws.{line_written}
-use Rattle.cli_call.proofs.RootLaws.{opened_root_rests, root_laws}
-use Rattle.cli_call.proofs.RootStates.{fixed_state}
-use Rattle.cli_call.proofs.AloneLaws.{alone_reading}
-use Rattle.cli_call.proofs.StoreLaws.{nothing_done, opened_rests}
-use Rattle.cli_call.specs.cny-laws.declared.failure.Failure.{Failure}
-use Rattle.cli_call.specs.cny-laws.declared.failure.Failure.TheVariants as failure
-use Rattle.cli_call.specs.cny-laws.declared.opened.Opened.{Opened}
-use Rattle.cli_call.specs.cny-laws.Call.{AreOpened, CallState}
-use Rattle.cli_call.specs.cny-laws.Reading.{ReadsGiven}
-use Rattle.cli_call.specs.cny-laws.Report.{End, Reports}
-use Rattle.cli_call.specs.cny-laws.Edits.{all_edited, edits_beside, with_tree}
-use Rattle.cli_call.specs.cny-laws.Store.{IsStore}
-use Rattle.cli_call.specs.cny-laws.Stores.{repository_store}
-use Rattle.cli_call.specs.cny-laws.WholeCall.{FromStates, after_edits}
-use Rattle.cli_call.specs.tree-journal.CanBePut.{AllCanBePut}
-use Rattle.cli_call.proofs.cny-laws.SeveralEdits.{all_kept, kept_beside}
+use Rattle.root_commands.specs.cli-call.tree-disk.Disk.{DiskModel, IsDisk}
+use Rattle.root_commands.proofs.cli-call.tree-disk.Moments.{rose_before}
+use Rattle.root_commands.specs.cli-call.Alone.{AnswersByLists, PerformsAlone, PerformsWithin}
+use Rattle.root_commands.specs.cli-call.Command.{AreReady, Performs, disks}
+use Rattle.root_commands.specs.cli-call.Line.{Moment, RunsLine}
+use Rattle.root_commands.specs.cli-call.Runs.{RunsCall, after_opening}
+use Rattle.root_commands.proofs.cli-call.BlockedEnds.{as_pair, as_record}
+use Rattle.root_commands.proofs.cli-call.CallLaws.{opened_ready, whole_call}
+use Rattle.root_commands.proofs.cli-call.CommandLaws.{none_read, performs_reading}
+use Rattle.root_commands.proofs.cli-call.InputLaws.{read_input_of}
+use Rattle.root_commands.proofs.cli-call.LineLaws.{line_written}
+use Rattle.root_commands.proofs.cli-call.RootLaws.{opened_root_rests, root_laws}
+use Rattle.root_commands.proofs.cli-call.RootStates.{fixed_state}
+use Rattle.root_commands.proofs.cli-call.AloneLaws.{alone_reading}
+use Rattle.root_commands.proofs.cli-call.StoreLaws.{nothing_done, opened_rests}
+use Rattle.root_commands.specs.cli-call.cny-laws.declared.failure.Failure.{Failure}
+use Rattle.root_commands.specs.cli-call.cny-laws.declared.failure.Failure.TheVariants as failure
+use Rattle.root_commands.specs.cli-call.cny-laws.declared.opened.Opened.{Opened}
+use Rattle.root_commands.specs.cli-call.cny-laws.Call.{AreOpened, CallState}
+use Rattle.root_commands.specs.cli-call.cny-laws.Reading.{ReadsGiven}
+use Rattle.root_commands.specs.cli-call.cny-laws.Report.{End, Reports}
+use Rattle.root_commands.specs.cli-call.cny-laws.Edits.{all_edited, edits_beside, with_tree}
+use Rattle.root_commands.specs.cli-call.cny-laws.Store.{IsStore}
+use Rattle.root_commands.specs.cli-call.cny-laws.Stores.{repository_store}
+use Rattle.root_commands.specs.cli-call.cny-laws.WholeCall.{FromStates, after_edits}
+use Rattle.root_commands.specs.cli-call.tree-journal.CanBePut.{AllCanBePut}
+use Rattle.root_commands.proofs.cli-call.cny-laws.SeveralEdits.{all_kept, kept_beside}
 use Rattle.conary_cli.specs.RunsSeveral.{GoesOnLines, MakesNone, ReadsNone, RunsSeveral}
 use Rattle.conary_cli.specs.Several.{IsLinesCall, LinesCause, LinesFrom, Making, before_lines, of_input}
 use Rattle.conary_cli.proofs.LinesRun.{lines_from, lines_known, MomentCause}

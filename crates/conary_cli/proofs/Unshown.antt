@@ -1,19 +1,19 @@
 -- A command of which nothing is written: it keeps its clauses by a meaning that answers no bytes.
 use Rattle.std.proofs.Common.{ℕ, List, [], Result, Ok, Err, refl, inl, inr, arith}
 use Rattle.cny_flow.specs.Flow.{SinkState}
-use Rattle.cli_call.specs.tree-disk.Tree.{Tree}
-use Rattle.cli_call.specs.tree-disk.Disk.{DiskModel}
-use Rattle.cli_call.proofs.tree-disk.Unfailed.{unfailed_weaker}
-use Rattle.cli_call.specs.Alone.{ActsOnRepository, AnswersByLists, AnswersByOpened, AnswersByTree, PerformsAlone, PerformsWithin}
-use Rattle.cli_call.specs.Command.{AnswersAs, Disks, Performs, end_of}
-use Rattle.cli_call.specs.Line.{RunsLine, WritesAnswer}
-use Rattle.cli_call.specs.cny-laws.declared.failure.Failure.{Failure}
-use Rattle.cli_call.specs.cny-laws.declared.failure.Failure.TheVariants as failure
-use Rattle.cli_call.specs.cny-laws.Shown.{IsShown}
-use Rattle.cli_call.specs.cny-laws.State.{Effect, IsNext, Meaning, Scope, State, Takes}
-use Rattle.cli_call.proofs.LineLaws.{line_written}
+use Rattle.root_commands.specs.cli-call.tree-disk.Tree.{Tree}
+use Rattle.root_commands.specs.cli-call.tree-disk.Disk.{DiskModel}
+use Rattle.root_commands.proofs.cli-call.tree-disk.Unfailed.{unfailed_weaker}
+use Rattle.root_commands.specs.cli-call.Alone.{ActsOnRepository, AnswersByLists, AnswersByOpened, AnswersByTree, PerformsAlone, PerformsWithin}
+use Rattle.root_commands.specs.cli-call.Command.{AnswersAs, Disks, Performs, end_of}
+use Rattle.root_commands.specs.cli-call.Line.{RunsLine, WritesAnswer}
+use Rattle.root_commands.specs.cli-call.cny-laws.declared.failure.Failure.{Failure}
+use Rattle.root_commands.specs.cli-call.cny-laws.declared.failure.Failure.TheVariants as failure
+use Rattle.root_commands.specs.cli-call.cny-laws.Shown.{IsShown}
+use Rattle.root_commands.specs.cli-call.cny-laws.State.{Effect, IsNext, Meaning, Scope, State, Takes}
+use Rattle.root_commands.proofs.cli-call.LineLaws.{line_written}
 use Rattle.std.proofs.KnownBytes.{Appends-nil}
-use Rattle.conary_cli.specs.declared.words.Command.{Command}
+use Rattle.cli_words.specs.declared.words.Command.{Command}
 use Rattle.conary_cli.specs.Commands.{PerformsCommand, meaning, scope_of}
 use Rattle.conary_cli.specs.Lines.{unshown, unshown_outcome}
 

@@ -1,17 +1,17 @@
 -- The table of commands: what each means.
 use Rattle.std.specs.Prelude.{◌≡◌, ◌⊎◌, ℕ, Bool, true, false, not, IsTrue, List, Result, Ok, Err}
-use Rattle.cli_call.specs.cny-base.declared.options.Options.{Options}
+use Rattle.root_commands.specs.cli-call.cny-base.declared.options.Options.{Options}
 use Rattle.cny_flow.specs.Flow.{SinkState}
-use Rattle.cli_call.specs.tree-disk.Disk.{DiskModel}
-use Rattle.cli_call.specs.cny-laws.declared.failure.Failure.{Failure}
-use Rattle.cli_call.specs.cny-laws.declared.failure.Failure.TheVariants as failure
-use Rattle.cli_call.specs.cny-laws.Call.{CallState}
-use Rattle.cli_call.specs.Runs.{RunsCall}
-use Rattle.cli_call.specs.cny-laws.Report.{End}
-use Rattle.cli_call.specs.Alone.{PerformsWithin}
-use Rattle.cli_call.specs.Command.{Disks}
-use Rattle.cli_call.specs.cny-laws.State.{Meaning, Scope}
-use Rattle.cli_call.specs.cny-laws.WholeCall.{IsCall, IsNoCall}
+use Rattle.root_commands.specs.cli-call.tree-disk.Disk.{DiskModel}
+use Rattle.root_commands.specs.cli-call.cny-laws.declared.failure.Failure.{Failure}
+use Rattle.root_commands.specs.cli-call.cny-laws.declared.failure.Failure.TheVariants as failure
+use Rattle.root_commands.specs.cli-call.cny-laws.Call.{CallState}
+use Rattle.root_commands.specs.cli-call.Runs.{RunsCall}
+use Rattle.root_commands.specs.cli-call.cny-laws.Report.{End}
+use Rattle.root_commands.specs.cli-call.Alone.{PerformsWithin}
+use Rattle.root_commands.specs.cli-call.Command.{Disks}
+use Rattle.root_commands.specs.cli-call.cny-laws.State.{Meaning, Scope}
+use Rattle.root_commands.specs.cli-call.cny-laws.WholeCall.{IsCall, IsNoCall}
 use Rattle.repo_commands.specs.Commit.{commit}
 use Rattle.repo_commands.specs.Cook.{cook}
 use Rattle.repo_commands.specs.Listing.{list_committed}
@@ -27,12 +27,15 @@ use Rattle.root_commands.specs.RollingBack.{roll_back}
 use Rattle.root_commands.specs.Syncing.{sync}
 use Rattle.root_commands.specs.Verifying.{verify_fully, verify_installed}
 use Rattle.repo_commands.specs.Moving.{move}
-use Rattle.conary_cli.specs.declared.words.Command.{Command}
-use Rattle.conary_cli.specs.declared.words.Command.TheVariants as command
-use Rattle.conary_cli.specs.Words.{AreWords}
+use Rattle.cli_words.specs.declared.words.Command.{Command}
+use Rattle.cli_words.specs.declared.words.Command.TheVariants as command
+use Rattle.cli_words.specs.Words.{AreWords}
 use Rattle.conary_cli.specs.Records.{EndsOpened, EndsWhole}
 use Rattle.conary_cli.specs.Restores.{RollbackRestores}
 use Rattle.repo_commands.specs.ShowChangeSet.{show_change_set}
+use Rattle.repo_commands.specs.Serving.{serve}
+use Rattle.repo_commands.specs.AskMirror.{ask_mirror}
+use Rattle.repo_commands.specs.TakeMirror.{take_mirror}
 
 -- what takes troves away keeps no file
 abbrev pub erasing : Bool → Options
@@ -59,6 +62,9 @@ meaning (command.Verify full names) = verify full names
 meaning command.ListJobs = list_jobs
 meaning (command.LocalChanges name) = change_locally name
 meaning (command.SendChanges from to) = changeset from to
+meaning command.Serve = serve
+meaning command.AskMirror = ask_mirror
+meaning command.TakeMirror = take_mirror
 meaning (command.Move way label given) = move way label given
 
 -- the commands that work on the root alone; `verify` does so unless it is full
@@ -78,12 +84,16 @@ abbrev pub is_of_repository : Command → Bool
 is_of_repository (command.Cook next) = true
 is_of_repository command.Commit = true
 is_of_repository (command.ListCommitted name) = true
+is_of_repository command.Serve = true
+is_of_repository command.AskMirror = true
+is_of_repository command.TakeMirror = true
 is_of_repository _ = false
 
 -- the commands that work on the lists alone which are read when the disks are opened
 abbrev pub is_of_lists : Command → Bool
 is_of_lists command.ShowChangeSet = true
 is_of_lists (command.ListCommitted name) = true
+is_of_lists command.AskMirror = true
 is_of_lists (command.ListInstalled name) = true
 is_of_lists _ = false
 
@@ -114,6 +124,7 @@ reads_root _ = true
 abbrev pub reads_repository : Command → Bool
 reads_repository (command.Cook next) = false
 reads_repository command.Commit = false
+reads_repository command.TakeMirror = false
 reads_repository (command.Move way label given) = false
 reads_repository _ = true
 

@@ -1,27 +1,27 @@
 -- The form of the input decides how a command ends.
 use Rattle.std.specs.Prelude.{◌≡◌, ◌⊎◌, ℕ, ◌≤◌, List, length, Result, Ok, Err}
 use Rattle.std.specs.Io.KnownBytes.{Appends}
-use Rattle.cli_call.specs.cny-base.declared.options.Options.{Options}
-use Rattle.cli_call.specs.cny-base.declared.refusal.Refusal.{Refusal}
+use Rattle.root_commands.specs.cli-call.cny-base.declared.options.Options.{Options}
+use Rattle.root_commands.specs.cli-call.cny-base.declared.refusal.Refusal.{Refusal}
 use Rattle.cny_manifest.specs.declared.made.Made.{Made}
 use Rattle.cny_manifest.specs.FirstFault as manifest_fault
 use Rattle.cny_manifest.specs.Makes.{Makes}
-use Rattle.cli_call.specs.tree-disk.Disk.{DiskModel}
-use Rattle.cli_call.specs.change-set.declared.change.ChangeSet.{ChangeSet}
-use Rattle.cli_call.specs.change-set.ChangeSet.{IsSetStream}
-use Rattle.cli_call.specs.change-set.FirstFault.{IsFirstFault}
-use Rattle.cli_call.specs.cny-laws.Call.{CallState, StopsForRepository}
-use Rattle.cli_call.specs.system-core.FixedDirs.{fixed_dirs}
-use Rattle.cli_call.specs.cny-laws.Input.{input_limit}
-use Rattle.cli_call.specs.cny-laws.State.{State, Effect, after, tree_of}
-use Rattle.cli_call.specs.cny-laws.Report.{End, status_of}
-use Rattle.cli_call.specs.cny-laws.Store.{RestsAt}
-use Rattle.cli_call.specs.cny-laws.Stores.{root_store}
-use Rattle.cli_call.specs.cny-laws.WholeCall.{FromStates, FromRoots, RestBoth}
-use Rattle.cli_call.specs.cny-laws.declared.failure.Failure.TheVariants as failure
-use Rattle.cli_call.specs.SetInput.{IsNoSetStream}
-use Rattle.conary_cli.specs.declared.words.Command.{Command}
-use Rattle.conary_cli.specs.declared.words.Command.TheVariants as command
+use Rattle.root_commands.specs.cli-call.tree-disk.Disk.{DiskModel}
+use Rattle.root_commands.specs.cli-call.change-set.declared.change.ChangeSet.{ChangeSet}
+use Rattle.root_commands.specs.cli-call.change-set.ChangeSet.{IsSetStream}
+use Rattle.root_commands.specs.cli-call.change-set.FirstFault.{IsFirstFault}
+use Rattle.root_commands.specs.cli-call.cny-laws.Call.{CallState, StopsForRepository}
+use Rattle.root_commands.specs.cli-call.system-core.FixedDirs.{fixed_dirs}
+use Rattle.root_commands.specs.cli-call.cny-laws.Input.{input_limit}
+use Rattle.root_commands.specs.cli-call.cny-laws.State.{State, Effect, after, tree_of}
+use Rattle.root_commands.specs.cli-call.cny-laws.Report.{End, status_of}
+use Rattle.root_commands.specs.cli-call.cny-laws.Store.{RestsAt}
+use Rattle.root_commands.specs.cli-call.cny-laws.Stores.{root_store}
+use Rattle.root_commands.specs.cli-call.cny-laws.WholeCall.{FromStates, FromRoots, RestBoth}
+use Rattle.root_commands.specs.cli-call.cny-laws.declared.failure.Failure.TheVariants as failure
+use Rattle.root_commands.specs.cli-call.SetInput.{IsNoSetStream}
+use Rattle.cli_words.specs.declared.words.Command.{Command}
+use Rattle.cli_words.specs.declared.words.Command.TheVariants as command
 use Rattle.root_commands.specs.Install.{first_reserved, InstallsMade, UnlessReserved}
 use Rattle.root_commands.specs.Update.{UpdatesBy}
 use Rattle.repo_commands.specs.ShowChangeSet.{described}

@@ -1,22 +1,22 @@
 -- Lines over two disks that are open, one after the other.
 use Rattle.std.specs.Prelude.{◌≡◌, ◌⊎◌, ℕ, Bool, true, false, IsTrue, List, [], ◌∷◌, map, Result, Ok, Err}
 use Rattle.cny_flow.specs.Flow.{SinkState}
-use Rattle.cli_call.specs.cny-base.declared.refusal.Refusal.{Refusal}
-use Rattle.cli_call.specs.tree-disk.Disk.{DiskModel}
+use Rattle.root_commands.specs.cli-call.cny-base.declared.refusal.Refusal.{Refusal}
+use Rattle.root_commands.specs.cli-call.tree-disk.Disk.{DiskModel}
 use Rattle.cny_batch.specs.declared.line.Line.{Line}
-use Rattle.cli_call.specs.Command.{AreReady}
-use Rattle.cli_call.specs.Line.{EndsWriting, Moment, RunsLine}
-use Rattle.cli_call.specs.cny-laws.declared.failure.Failure.{Failure}
-use Rattle.cli_call.specs.cny-laws.declared.failure.Failure.TheVariants as failure
-use Rattle.cli_call.specs.cny-laws.Reading.{given}
-use Rattle.cli_call.specs.cny-laws.Report.{End, MustBeTold}
-use Rattle.cli_call.specs.cny-laws.State.{State, Effect, Meaning}
-use Rattle.cli_call.specs.cny-laws.WholeCall.{OwnOutcome}
-use Rattle.conary_cli.specs.declared.words.Command.{Command}
+use Rattle.root_commands.specs.cli-call.Command.{AreReady}
+use Rattle.root_commands.specs.cli-call.Line.{EndsWriting, Moment, RunsLine}
+use Rattle.root_commands.specs.cli-call.cny-laws.declared.failure.Failure.{Failure}
+use Rattle.root_commands.specs.cli-call.cny-laws.declared.failure.Failure.TheVariants as failure
+use Rattle.root_commands.specs.cli-call.cny-laws.Reading.{given}
+use Rattle.root_commands.specs.cli-call.cny-laws.Report.{End, MustBeTold}
+use Rattle.root_commands.specs.cli-call.cny-laws.State.{State, Effect, Meaning}
+use Rattle.root_commands.specs.cli-call.cny-laws.WholeCall.{OwnOutcome}
+use Rattle.cli_words.specs.declared.words.Command.{Command}
 use Rattle.conary_cli.specs.Commands.{meaning, scope_of}
 use Rattle.conary_cli.specs.Records.{EndsWhole}
 use Rattle.conary_cli.specs.Restores.{LineRestores}
-use Rattle.conary_cli.specs.Words.{AreWords, IsOnly}
+use Rattle.cli_words.specs.Words.{AreWords, IsOnly}
 
 -- ---- what a line means
 
@@ -84,7 +84,7 @@ module _ {T P : Type 0} (root_disk : DiskModel T) (repo_disk : DiskModel P) wher
     -- where it is done, a further command may begin
     pub again : end ≡ Ok tt → AreReady root_disk repo_disk new.at
 
-  -- a command, or words that are none: usage, or what isn't built yet
+  -- a command, or words that are none, which is usage
   abbrev pub RunsOf : Result Command Failure → CallLine → Moment T P → Moment T P → End → Type 0
   RunsOf (Ok c) l old new end = RefusesInput (meaning c) l.line.input old new end ⊎ RunsGiven c l.shown l.line.input old new end
   RunsOf (Err e) l old new end = (new ≡ old) × (end ≡ Err e) × MustBeTold e

@@ -1,10 +1,10 @@
 -- What both disks go through in several lines: a list of states.
 use Rattle.std.specs.Prelude.{List, [], ◌∷◌}
-use Rattle.cli_call.specs.tree-disk.Disk.{DiskModel}
-use Rattle.cli_call.specs.tree-disk.Confined.{LeavesOnly}
-use Rattle.cli_call.specs.cny-laws.State.{State, OneDisk}
-use Rattle.cli_call.specs.cny-laws.Store.{OneOf}
-use Rattle.cli_call.specs.cny-laws.Stores.{root_store, repository_store}
+use Rattle.root_commands.specs.cli-call.tree-disk.Disk.{DiskModel}
+use Rattle.root_commands.specs.cli-call.tree-disk.Confined.{LeavesOnly}
+use Rattle.root_commands.specs.cli-call.cny-laws.State.{State, OneDisk}
+use Rattle.root_commands.specs.cli-call.cny-laws.Store.{OneOf}
+use Rattle.root_commands.specs.cli-call.cny-laws.Stores.{root_store, repository_store}
 
 module _ {T P : Type 0} (root_disk : DiskModel T) (repo_disk : DiskModel P) where
   -- From one moment of both disks to another, and from a state to the next: a crash of a disk leaves a tree that recovers to what it

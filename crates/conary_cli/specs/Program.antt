@@ -1,23 +1,23 @@
 -- What a call of the program promises, by what its words call; and a line by itself.
 use Rattle.std.specs.Prelude.{◌≡◌, ◌⊎◌, ℕ, true, false, List, Some, Result, Ok, Err}
 use Rattle.cny_flow.specs.Flow.{SourceState, SinkState}
-use Rattle.cli_call.specs.tree-disk.Disk.{DiskModel}
+use Rattle.root_commands.specs.cli-call.tree-disk.Disk.{DiskModel}
 use Rattle.cny_batch.specs.declared.line.Line.{Line}
-use Rattle.cli_call.specs.Runs.{RunsCall}
-use Rattle.cli_call.specs.cny-laws.declared.failure.Failure.{Failure}
-use Rattle.cli_call.specs.cny-laws.declared.failure.Failure.TheVariants as failure
-use Rattle.cli_call.specs.cny-laws.Call.{CallState}
-use Rattle.cli_call.specs.cny-laws.Report.{End}
-use Rattle.cli_call.specs.cny-laws.WholeCall.{IsNoCall}
-use Rattle.conary_cli.specs.declared.call_words.Call.{Call}
-use Rattle.conary_cli.specs.declared.call_words.Call.TheVariants as call
-use Rattle.conary_cli.specs.declared.words.Command.{Command}
-use Rattle.conary_cli.specs.Calls.{AreCall}
+use Rattle.root_commands.specs.cli-call.Runs.{RunsCall}
+use Rattle.root_commands.specs.cli-call.cny-laws.declared.failure.Failure.{Failure}
+use Rattle.root_commands.specs.cli-call.cny-laws.declared.failure.Failure.TheVariants as failure
+use Rattle.root_commands.specs.cli-call.cny-laws.Call.{CallState}
+use Rattle.root_commands.specs.cli-call.cny-laws.Report.{End}
+use Rattle.root_commands.specs.cli-call.cny-laws.WholeCall.{IsNoCall}
+use Rattle.cli_words.specs.declared.call_words.Call.{Call}
+use Rattle.cli_words.specs.declared.call_words.Call.TheVariants as call
+use Rattle.cli_words.specs.declared.words.Command.{Command}
+use Rattle.cli_words.specs.Calls.{AreCall}
 use Rattle.conary_cli.specs.Commands.{meaning, scope_of, IsCommandCall, IsSomeCall, IsWholeCall, RunsSome, RunsWords}
 use Rattle.conary_cli.specs.Records.{EndsOpened}
 use Rattle.conary_cli.specs.RunsSeveral.{RunsSeveral}
 use Rattle.conary_cli.specs.Several.{AreBatchLines, AreDemoLines, IsLinesCall}
-use Rattle.conary_cli.specs.Words.{AreWords}
+use Rattle.cli_words.specs.Words.{AreWords}
 
 -- ---- a line by itself
 

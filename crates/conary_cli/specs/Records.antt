@@ -1,14 +1,14 @@
 -- No damaged record is passed over, also where the root stores no system.
 use Rattle.std.specs.Prelude.{◌⊎◌, ◌≤◌, IsTrue, Result, Ok}
-use Rattle.cli_call.specs.local-db.declared.db.Db.{Db}
-use Rattle.cli_call.specs.rollback-stack.Inverse.{IsDamagedJob}
-use Rattle.cli_call.specs.tree-disk.Disk.{DiskModel}
-use Rattle.cli_call.specs.tree-disk.Tree.{Name, Tree}
-use Rattle.cli_call.specs.cny-laws.declared.failure.Failure.{Failure}
-use Rattle.cli_call.specs.cny-laws.Call.{CallState, NotOpened, OpensRoot}
-use Rattle.cli_call.specs.cny-laws.Report.{End, status_of}
-use Rattle.conary_cli.specs.declared.words.Command.{Command}
-use Rattle.conary_cli.specs.declared.words.Command.TheVariants as command
+use Rattle.root_commands.specs.cli-call.local-db.declared.db.Db.{Db}
+use Rattle.root_commands.specs.cli-call.rollback-stack.Inverse.{IsDamagedJob}
+use Rattle.root_commands.specs.cli-call.tree-disk.Disk.{DiskModel}
+use Rattle.root_commands.specs.cli-call.tree-disk.Tree.{Name, Tree}
+use Rattle.root_commands.specs.cli-call.cny-laws.declared.failure.Failure.{Failure}
+use Rattle.root_commands.specs.cli-call.cny-laws.Call.{CallState, NotOpened, OpensRoot}
+use Rattle.root_commands.specs.cli-call.cny-laws.Report.{End, status_of}
+use Rattle.cli_words.specs.declared.words.Command.{Command}
+use Rattle.cli_words.specs.declared.words.Command.TheVariants as command
 use Rattle.root_commands.specs.Records.{FindsNone, IsDamagedBack, IsDamagedOfAll, last_job}
 
 -- what isn't damaged where the command is done

@@ -1,24 +1,24 @@
 -- What `rollback` restores, where nothing at the paths of the jobs was edited since.
 use Rattle.std.specs.Prelude.{◌≡◌, ◌⊎◌, ℕ, ◌≤◌, IsTrue, List, ◌∷◌, Option, Some, None, Ok, Err}
-use Rattle.cli_call.specs.cny-base.declared.refusal.Refusal.{Refusal}
-use Rattle.cli_call.specs.tree-disk.Tree.{Tree}
-use Rattle.cli_call.specs.tree-disk.Disk.{DiskModel}
-use Rattle.cli_call.specs.local-db.declared.db.Db.{Db}
-use Rattle.cli_call.specs.local-db.SystemState.{StackItem}
-use Rattle.cli_call.specs.system-core.Restoring.{IsException, IsRestored, IsUnedited}
-use Rattle.cli_call.specs.system-core.RestoringAll.{AreRestored, AreUnedited, IsExceptionTo}
-use Rattle.cli_call.specs.system-core.Several.{HasJob, jobs_to}
-use Rattle.cli_call.specs.system-core.FixedDirs.{fixed_dirs}
-use Rattle.cli_call.specs.cny-laws.Call.{CallState, StopsForRepository}
-use Rattle.cli_call.specs.cny-laws.State.{RootState, State, tree_of}
-use Rattle.cli_call.specs.cny-laws.Store.{RestsAt}
-use Rattle.cli_call.specs.cny-laws.Stores.{root_store}
-use Rattle.cli_call.specs.cny-laws.declared.failure.Failure.TheVariants as failure
-use Rattle.cli_call.specs.cny-laws.Report.{End, status_of}
-use Rattle.cli_call.specs.cny-laws.WholeCall.{FromStates, FromRoots}
-use Rattle.conary_cli.specs.declared.words.Command.{Command}
-use Rattle.conary_cli.specs.declared.words.Command.TheVariants as command
-use Rattle.cli_call.specs.system-core.Job.{db_of}
+use Rattle.root_commands.specs.cli-call.cny-base.declared.refusal.Refusal.{Refusal}
+use Rattle.root_commands.specs.cli-call.tree-disk.Tree.{Tree}
+use Rattle.root_commands.specs.cli-call.tree-disk.Disk.{DiskModel}
+use Rattle.root_commands.specs.cli-call.local-db.declared.db.Db.{Db}
+use Rattle.root_commands.specs.cli-call.local-db.SystemState.{StackItem}
+use Rattle.root_commands.specs.cli-call.system-core.Restoring.{IsException, IsRestored, IsUnedited}
+use Rattle.root_commands.specs.cli-call.system-core.RestoringAll.{AreRestored, AreUnedited, IsExceptionTo}
+use Rattle.root_commands.specs.cli-call.system-core.Several.{HasJob, jobs_to}
+use Rattle.root_commands.specs.cli-call.system-core.FixedDirs.{fixed_dirs}
+use Rattle.root_commands.specs.cli-call.cny-laws.Call.{CallState, StopsForRepository}
+use Rattle.root_commands.specs.cli-call.cny-laws.State.{RootState, State, tree_of}
+use Rattle.root_commands.specs.cli-call.cny-laws.Store.{RestsAt}
+use Rattle.root_commands.specs.cli-call.cny-laws.Stores.{root_store}
+use Rattle.root_commands.specs.cli-call.cny-laws.declared.failure.Failure.TheVariants as failure
+use Rattle.root_commands.specs.cli-call.cny-laws.Report.{End, status_of}
+use Rattle.root_commands.specs.cli-call.cny-laws.WholeCall.{FromStates, FromRoots}
+use Rattle.cli_words.specs.declared.words.Command.{Command}
+use Rattle.cli_words.specs.declared.words.Command.TheVariants as command
+use Rattle.root_commands.specs.cli-call.system-core.Job.{db_of}
 
 -- where the fixed directories stand, and the call was done or refused
 abbrev pub IfAnswered : RootState → End → Type 0 → Type 0

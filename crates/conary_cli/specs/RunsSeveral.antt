@@ -1,16 +1,16 @@
 -- A call of several lines by its steps: the disks are opened, the lines are made, and they are run.
 use Rattle.std.specs.Prelude.{◌⊎◌, ℕ, Bool, true, List, Result, Ok, Err}
 use Rattle.cny_flow.specs.Flow.{SourceState}
-use Rattle.cli_call.specs.tree-disk.Disk.{DiskModel}
+use Rattle.root_commands.specs.cli-call.tree-disk.Disk.{DiskModel}
 use Rattle.cny_batch.specs.declared.line.Line.{Line}
-use Rattle.cli_call.specs.Command.{disks}
-use Rattle.cli_call.specs.Runs.{after_opening, RunsCall}
-use Rattle.cli_call.specs.cny-laws.declared.failure.Failure.{Failure}
-use Rattle.cli_call.specs.cny-laws.declared.failure.Failure.TheVariants as failure
-use Rattle.cli_call.specs.cny-laws.declared.opened.Opened.{Opened}
-use Rattle.cli_call.specs.cny-laws.Call.{AreOpened, CallState}
-use Rattle.cli_call.specs.cny-laws.Reading.{ReadsGiven}
-use Rattle.cli_call.specs.cny-laws.Report.{End}
+use Rattle.root_commands.specs.cli-call.Command.{disks}
+use Rattle.root_commands.specs.cli-call.Runs.{after_opening, RunsCall}
+use Rattle.root_commands.specs.cli-call.cny-laws.declared.failure.Failure.{Failure}
+use Rattle.root_commands.specs.cli-call.cny-laws.declared.failure.Failure.TheVariants as failure
+use Rattle.root_commands.specs.cli-call.cny-laws.declared.opened.Opened.{Opened}
+use Rattle.root_commands.specs.cli-call.cny-laws.Call.{AreOpened, CallState}
+use Rattle.root_commands.specs.cli-call.cny-laws.Reading.{ReadsGiven}
+use Rattle.root_commands.specs.cli-call.cny-laws.Report.{End}
 use Rattle.conary_cli.specs.Lines.{CallLine, all_shown, RunsLines}
 use Rattle.conary_cli.specs.Several.{AreBatchLines, Making, before_lines, of_input}
 

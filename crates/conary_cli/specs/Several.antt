@@ -1,34 +1,34 @@
 -- What a call of several lines promises: a batch, or the demo.
 use Rattle.std.specs.Prelude.{◌≡◌, ◌⊎◌, ℕ, ◌≤◌, Bool, true, false, IsTrue, List, Result, Ok, Err}
 use Rattle.cny_flow.specs.Flow.{SinkState}
-use Rattle.cli_call.specs.cny-base.Count.{Rose}
-use Rattle.cli_call.specs.cny-base.declared.refusal.Refusal.{Refusal}
-use Rattle.cli_call.specs.cny-base.declared.refusal.Refusal.TheVariants.{Malformed}
-use Rattle.cli_call.specs.tree-disk.Disk.{DiskModel}
-use Rattle.cli_call.specs.tree-disk.Clear.{is_within}
-use Rattle.cli_call.specs.tree-disk.Confined.{Among, Confined, LeavesOnly}
-use Rattle.cli_call.specs.tree-disk.Tree.{Tree}
-use Rattle.cli_call.specs.journal-log.declared.put.Put.{Put}
-use Rattle.cli_call.specs.tree-journal.CanBePut.{AllCanBePut}
-use Rattle.cli_call.specs.tree-journal.Recovery.{is_committed, HoldsLog, RecoversAsThen}
+use Rattle.root_commands.specs.cli-call.cny-base.Count.{Rose}
+use Rattle.root_commands.specs.cli-call.cny-base.declared.refusal.Refusal.{Refusal}
+use Rattle.root_commands.specs.cli-call.cny-base.declared.refusal.Refusal.TheVariants.{Malformed}
+use Rattle.root_commands.specs.cli-call.tree-disk.Disk.{DiskModel}
+use Rattle.root_commands.specs.cli-call.tree-disk.Clear.{is_within}
+use Rattle.root_commands.specs.cli-call.tree-disk.Confined.{Among, Confined, LeavesOnly}
+use Rattle.root_commands.specs.cli-call.tree-disk.Tree.{Tree}
+use Rattle.root_commands.specs.cli-call.journal-log.declared.put.Put.{Put}
+use Rattle.root_commands.specs.cli-call.tree-journal.CanBePut.{AllCanBePut}
+use Rattle.root_commands.specs.cli-call.tree-journal.Recovery.{is_committed, HoldsLog, RecoversAsThen}
 use Rattle.repo_load.specs.Files.{repository_base}
 use Rattle.cny_batch.specs.Demo.{demo_lines}
 use Rattle.cny_batch.specs.Batch.{IsBatch}
 use Rattle.cny_batch.specs.FirstFault.{IsFirstFault}
 use Rattle.cny_batch.specs.declared.line.Line.{Line}
-use Rattle.cli_call.specs.Command.{disks, Rest}
-use Rattle.cli_call.specs.Runs.{after_opening}
-use Rattle.cli_call.specs.cny-laws.declared.failure.Failure.TheVariants as failure
-use Rattle.cli_call.specs.cny-laws.declared.opened.Opened.{Opened}
-use Rattle.cli_call.specs.cny-laws.Call.{AreOpened, CallState}
-use Rattle.cli_call.specs.cny-laws.Edits.{Edit, AreEdits, all_edited, edits_beside}
-use Rattle.cli_call.specs.cny-laws.Reading.{given, IsInput, ReadsGiven}
-use Rattle.cli_call.specs.cny-laws.Report.{End, Reports, status_of}
-use Rattle.cli_call.specs.cny-laws.State.{State, Meaning, Scope, tree_of}
-use Rattle.cli_call.specs.cny-laws.Store.{HasDamagedFile, Recovers, OneOf, IsEntryOr}
-use Rattle.cli_call.specs.cny-laws.Stores.{root_store, repository_store}
-use Rattle.cli_call.specs.cny-laws.WholeCall.{AreLater, FromStates, IsCall, RestBoth, after_edits}
-use Rattle.cli_call.specs.system-core.FixedDirs.{fixed_dirs}
+use Rattle.root_commands.specs.cli-call.Command.{disks, Rest}
+use Rattle.root_commands.specs.cli-call.Runs.{after_opening}
+use Rattle.root_commands.specs.cli-call.cny-laws.declared.failure.Failure.TheVariants as failure
+use Rattle.root_commands.specs.cli-call.cny-laws.declared.opened.Opened.{Opened}
+use Rattle.root_commands.specs.cli-call.cny-laws.Call.{AreOpened, CallState}
+use Rattle.root_commands.specs.cli-call.cny-laws.Edits.{Edit, AreEdits, all_edited, edits_beside}
+use Rattle.root_commands.specs.cli-call.cny-laws.Reading.{given, IsInput, ReadsGiven}
+use Rattle.root_commands.specs.cli-call.cny-laws.Report.{End, Reports, status_of}
+use Rattle.root_commands.specs.cli-call.cny-laws.State.{State, Meaning, Scope, tree_of}
+use Rattle.root_commands.specs.cli-call.cny-laws.Store.{HasDamagedFile, Recovers, OneOf, IsEntryOr}
+use Rattle.root_commands.specs.cli-call.cny-laws.Stores.{root_store, repository_store}
+use Rattle.root_commands.specs.cli-call.cny-laws.WholeCall.{AreLater, FromStates, IsCall, RestBoth, after_edits}
+use Rattle.root_commands.specs.cli-call.system-core.FixedDirs.{fixed_dirs}
 use Rattle.conary_cli.specs.Lines.{CallLine, all_shown, last_shown, LinesEnd, RunsLines}
 use Rattle.conary_cli.specs.Lives.{LiveBoth, before_last, last_state}
 

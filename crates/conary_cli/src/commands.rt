@@ -1,17 +1,18 @@
 //! The table of commands: what each takes, and which function performs it.
 ghost use Rattle.std.specs.Prelude.{◌≡◌, List, ℕ, not, true, OnOk};
-ghost use Rattle.cli_call.specs.Alone.{AnswersByTree, PerformsAlone};
-ghost use Rattle.cli_call.specs.Command.{disks, AreReady, Performs};
-ghost use Rattle.cli_call.specs.tree-disk.Disk.{Reads};
+ghost use Rattle.root_commands.specs.cli-call.Alone.{AnswersByTree, PerformsAlone};
+ghost use Rattle.root_commands.specs.cli-call.Command.{disks, AreReady, Performs};
+ghost use Rattle.root_commands.specs.cli-call.tree-disk.Disk.{Reads};
 ghost use Rattle.conary_cli.specs.Commands.{erasing, meaning, verify, PerformsCommand};
 
-use crate::words::Command;
-use cli_call::cny_base::{Bytes, Name, Options, Text};
-use cli_call::tree_disk::TreeDisk;
-use cli_call::{Failure, Opened};
+use cli_words::Command;
 use repo_commands::{
-    commit_input, commit_moved, cook_manifest, list_committed, send_changes, show_change_set,
+    ask_mirror, commit_input, commit_moved, cook_manifest, list_committed, send_changes,
+    serve_requests, show_change_set, take_mirror,
 };
+use root_commands::cli_call::cny_base::{Bytes, Name, Options, Text};
+use root_commands::cli_call::tree_disk::TreeDisk;
+use root_commands::cli_call::{Failure, Opened};
 use root_commands::{
     change_locally, erase_troves, install_manifest, list_installed, list_jobs, roll_back,
     sync_to_model, update_input, update_specs, verify_fully, verify_installed,
@@ -38,6 +39,9 @@ pub fn takes_input(command: &Command) -> bool
         Command::ListJobs => false,
         Command::LocalChanges { .. } => false,
         Command::SendChanges { .. } => false,
+        Command::Serve => true,
+        Command::AskMirror => false,
+        Command::TakeMirror => true,
         Command::Move { .. } => false,
     }
 }
@@ -135,6 +139,9 @@ pub fn perform<T: TreeDisk, P: TreeDisk>(
         Command::ListJobs => as_bytes(list_jobs(alloc, opened, repo, root)),
         Command::LocalChanges { name } => change_locally(alloc, name, opened, repo, root),
         Command::SendChanges { from, to } => send_changes(alloc, from, to, opened, repo, root),
+        Command::Serve => serve_requests(alloc, input, opened, repo, root),
+        Command::AskMirror => ask_mirror(alloc, opened, repo, root),
+        Command::TakeMirror => as_bytes(take_mirror(alloc, input, opened, repo, root)),
         Command::Move { way, label, given } => {
             as_bytes(commit_moved(alloc, *way, label, given, opened, repo, root))
         }

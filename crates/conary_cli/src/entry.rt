@@ -4,9 +4,9 @@
 ghost use Rattle.std.specs.Prelude.{◌≡◌, ◌≤◌, IfOk, IfErr};
 
 use crate::program::run;
-use cli_call::cny_base::{Fails, Mode, Node, OutOfMemory, Path, Text};
-use cli_call::tree_disk::TreeDisk;
 use cny_flow::{StdSink, StdSource};
+use root_commands::cli_call::cny_base::{Fails, Mode, Node, OutOfMemory, Path, Text};
+use root_commands::cli_call::tree_disk::TreeDisk;
 use std::alloc::Global;
 use std::env;
 use std::io::ErrorKind;

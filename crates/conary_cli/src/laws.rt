@@ -1,15 +1,15 @@
 //! What follows of the promise of a call.
 ghost use Rattle.std.specs.Prelude.{◌≤◌, List, ℕ};
 ghost use Rattle.cny_flow.specs.Flow.{SinkState};
-ghost use Rattle.cli_call.specs.cny-laws.Call.{CallState};
-ghost use Rattle.conary_cli.specs.declared.words.Command.{Command};
+ghost use Rattle.root_commands.specs.cli-call.cny-laws.Call.{CallState};
+ghost use Rattle.cli_words.specs.declared.words.Command.{Command};
 ghost use Rattle.conary_cli.specs.Commands.{IsCommandCall, IsSomeCall};
 ghost use Rattle.conary_cli.specs.FormDecides.{FormDecides};
 ghost use Rattle.conary_cli.specs.Program.{IsSomething};
 
-use cli_call::change_set::unique_set;
-use cli_call::tree_disk::TreeDisk;
 use cny_manifest::one_manifest;
+use root_commands::cli_call::change_set::unique_set;
+use root_commands::cli_call::tree_disk::TreeDisk;
 
 /// What a call promises of its status, and by the form of its input.
 pub fn call_laws<T: TreeDisk, P: TreeDisk>()

@@ -6,7 +6,6 @@
 //! `specs/Several` what a call of several lines promises. `entry` hands the words, the standard streams and two disks to `run`.
 #![tactic(auto)]
 
-mod call_words;
 mod commands;
 mod entry;
 mod laws;
@@ -14,13 +13,12 @@ mod line_alone;
 mod lines;
 mod program;
 mod several;
-mod words;
 
-pub use call_words::{Call, read_call};
-pub use cli_call;
+pub use cli_words;
 pub use cny_batch;
 pub use entry::start;
 pub use laws::call_laws;
 pub use line_alone::run_line;
 pub use program::run;
-pub use words::{Command, NameList, SpecList, read_words, some_words};
+pub use repo_commands;
+pub use root_commands::cli_call;

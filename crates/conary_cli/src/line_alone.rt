@@ -1,18 +1,18 @@
 //! A line by itself.
 ghost use Rattle.std.specs.Prelude.{List, Ok, Result, ℕ};
 ghost use Rattle.cny_flow.specs.Flow.{sink_state};
-ghost use Rattle.cli_call.specs.cny-laws.declared.failure.Failure.{Failure};
-ghost use Rattle.conary_cli.specs.declared.words.Command.{Command};
+ghost use Rattle.root_commands.specs.cli-call.cny-laws.declared.failure.Failure.{Failure};
+ghost use Rattle.cli_words.specs.declared.words.Command.{Command};
 ghost use Rattle.conary_cli.specs.Commands.{RunsWords};
 ghost use Rattle.conary_cli.specs.Program.{IsLineCall, IsLineCallOf, RunsAlone, line_state, told_source};
-ghost use Rattle.conary_cli.specs.Words.{AreWords};
+ghost use Rattle.cli_words.specs.Words.{AreWords};
 
 use crate::lines::run_given;
-use crate::words::{Command, read_words};
-use cli_call::tree_disk::TreeDisk;
-use cli_call::{Failure, open_disks, report, store_laws};
+use cli_words::{Command, read_words};
 use cny_batch::Line;
 use cny_flow::Sink;
+use root_commands::cli_call::tree_disk::TreeDisk;
+use root_commands::cli_call::{Failure, open_disks, report, store_laws};
 use std::alloc::Global;
 
 // Opens both disks, and performs a command with what it is given of a line's input.

@@ -1,20 +1,20 @@
 //! Lines over two disks that are open, one after the other.
 ghost use Rattle.std.specs.Prelude.{◌≤◌, true, false, Ok, Err, IfOk, IfErr};
 ghost use Rattle.cny_flow.specs.Flow.{SinkState};
-ghost use Rattle.cli_call.specs.Command.{disks, AreReady};
-ghost use Rattle.cli_call.specs.Line.{moment};
+ghost use Rattle.root_commands.specs.cli-call.Command.{disks, AreReady};
+ghost use Rattle.root_commands.specs.cli-call.Line.{moment};
 ghost use Rattle.cny_batch.specs.Demo as demo;
 ghost use Rattle.conary_cli.specs.Commands.{meaning};
 ghost use Rattle.conary_cli.specs.Lines.{GivesOf, RunsLines, RunsOf, RunsOne, all_shown, last_shown};
 
 use crate::commands::{perform, takes_input};
 use crate::program::run_command;
-use crate::words::{Command, read_words};
-use cli_call::cny_base::{INPUT_LIMIT, Refusal, What};
-use cli_call::tree_disk::TreeDisk;
-use cli_call::{Failure, Opened};
+use cli_words::{Command, read_words};
 use cny_batch::{Line, line_count, line_of};
 use cny_flow::Sink;
+use root_commands::cli_call::cny_base::{INPUT_LIMIT, Refusal, What};
+use root_commands::cli_call::tree_disk::TreeDisk;
+use root_commands::cli_call::{Failure, Opened};
 use std::alloc::Global;
 
 /// What a command is given of a line's input: all of it, where it takes one, and else nothing.

@@ -1,24 +1,25 @@
 //! A whole call of the program.
 ghost use Rattle.std.specs.Prelude.{string_bytes, map, IsTrue, OnOk, Result};
-ghost use Rattle.cli_call.specs.cny-laws.declared.failure.Failure.{Failure};
-ghost use Rattle.conary_cli.specs.declared.call_words.Call.{Call};
+ghost use Rattle.root_commands.specs.cli-call.cny-laws.declared.failure.Failure.{Failure};
+ghost use Rattle.cli_words.specs.declared.call_words.Call.{Call};
 ghost use Rattle.cny_flow.specs.Flow.{sink_state, source_state};
-ghost use Rattle.cli_call.specs.cny-laws.Call.{call_state};
-ghost use Rattle.cli_call.specs.Runs.{RunsCall, RunsOpen};
-ghost use Rattle.cli_call.specs.Command.{disks, AreReady};
-ghost use Rattle.cli_call.specs.Line.{moment, RunsLine};
-ghost use Rattle.conary_cli.specs.Calls.{AreCall};
+ghost use Rattle.root_commands.specs.cli-call.cny-laws.Call.{call_state};
+ghost use Rattle.root_commands.specs.cli-call.Runs.{RunsCall, RunsOpen};
+ghost use Rattle.root_commands.specs.cli-call.Command.{disks, AreReady};
+ghost use Rattle.root_commands.specs.cli-call.Line.{moment, RunsLine};
+ghost use Rattle.cli_words.specs.Calls.{AreCall};
 ghost use Rattle.conary_cli.specs.Commands.{meaning, scope_of};
 ghost use Rattle.conary_cli.specs.Program.{IsProgramCall, IsSomething, RunsProgram, RunsSomething};
 ghost use Rattle.conary_cli.specs.Records.{EndsOpened, EndsWhole};
 
-use crate::call_words::{Call, read_call};
 use crate::commands::{perform, takes_input};
 use crate::several::{run_batch, run_demo};
-use crate::words::Command;
-use cli_call::tree_disk::TreeDisk;
-use cli_call::{Failure, Opened, open_disks, read_given, report, store_laws, write_answer};
+use cli_words::{Call, Command, read_call};
 use cny_flow::{Sink, Source};
+use root_commands::cli_call::tree_disk::TreeDisk;
+use root_commands::cli_call::{
+    Failure, Opened, open_disks, read_given, report, store_laws, write_answer,
+};
 use std::alloc::Global;
 
 /// Performs a command over two disks that are open, and writes what it answers.

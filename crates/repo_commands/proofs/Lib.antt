@@ -1,10 +1,12 @@
 pub mod ListingEnds
+pub mod MirrorEnds
 pub mod CommitEnds
 pub mod CommitOpened
 pub mod MadeVersions
 pub mod KeptContents
 pub mod CookEnds
 pub mod SendingEnds
+pub mod ServingEnds
 pub mod ShowEnds
 pub mod CommittedTroves
 pub mod MovingEnds

@@ -24,7 +24,7 @@ use Rattle.cli_call.specs.cny-laws.State.{tree_of, Effect, Meaning, RootState, S
 use Rattle.cli_call.specs.cny-laws.Store.{IsStore, RestsAt}
 use Rattle.cli_call.specs.cny-laws.Stores.{root_store, repository_store}
 use Rattle.cli_call.specs.Answer.{AnswersSo}
-use Rattle.system_core.proofs.Held.{OneDatabase}
+use Rattle.cli_call.proofs.system-core.Held.{OneDatabase}
 
 -- what a command that works on the root's tree and its installed list alone needs of a state
 pub record IsSeen {T : Type 0} (root_disk : DiskModel T) (root : T) (opened : Opened) (s : State) : Type 0 where

@@ -14,7 +14,7 @@ use Rattle.cli_call.specs.Command.{Disks, AreReady, StandsFor}
 use Rattle.cli_call.proofs.RootDatabase.{held_database}
 use Rattle.cli_call.specs.cny-laws.State.{Effect, State}
 use Rattle.root_commands.specs.Update.{UpdatesBy, UpdatesTo}
-use Rattle.system_core.proofs.Held.{OneDatabase}
+use Rattle.cli_call.proofs.system-core.Held.{OneDatabase}
 
 module _ {T P : Type 0} {root_disk : DiskModel T} {repo_disk : DiskModel P} (law : OneDatabase) (old : Disks T P) (ready : AreReady root_disk repo_disk old) (told : IsTrue root_disk.tells) (s : State) (stands : StandsFor root_disk repo_disk old s) where
   -- the list at hand is that of the system

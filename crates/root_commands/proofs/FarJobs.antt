@@ -22,12 +22,12 @@ use Rattle.repo_load.specs.declared.repo_contents.RepoContents.{RepoContents}
 use Rattle.local_db.specs.declared.db.Db.{Db}
 use Rattle.local_db.specs.declared.format.Format.TheVariants.{Two}
 use Rattle.local_db.specs.Stores.{StoresIn}
-use Rattle.system_core.specs.Opening.{IsSettledRoot}
-use Rattle.system_core.specs.declared.done.Done.{Done}
-use Rattle.system_core.specs.Job.{Sources, sources_of}
-use Rattle.system_core.specs.Lists.{ListStep}
-use Rattle.system_core.specs.Steps as steps
-use Rattle.system_core.specs.Steps.{StepEnds}
+use Rattle.cli_call.specs.system-core.Opening.{IsSettledRoot}
+use Rattle.cli_call.specs.system-core.declared.done.Done.{Done}
+use Rattle.cli_call.specs.system-core.Job.{Sources, sources_of}
+use Rattle.cli_call.specs.system-core.Lists.{ListStep}
+use Rattle.cli_call.specs.system-core.Steps as steps
+use Rattle.cli_call.specs.system-core.Steps.{StepEnds}
 use Rattle.cny_report.specs.Jobs.{changes_text}
 use Rattle.cli_call.specs.cny-laws.declared.failure.Failure.{Failure}
 use Rattle.cli_call.specs.cny-laws.declared.failure.Failure.TheVariants as failure
@@ -48,7 +48,7 @@ use Rattle.root_commands.proofs.SpecifiedEnds.{ReadsAtRefusal}
 use Rattle.root_commands.proofs.JobStates as states
 use Rattle.root_commands.proofs.JobStates.{IsUndamaged}
 use Rattle.root_commands.proofs.MoreAnswers.{ends_more}
-use Rattle.system_core.proofs.Held.{OneDatabase}
+use Rattle.cli_call.proofs.system-core.Held.{OneDatabase}
 
 -- the laws of repositories that are called upon
 pub record RepositoryLaws : Type 0 where

@@ -32,7 +32,7 @@ use Rattle.cli_call.specs.Answer.{answer}
 use Rattle.root_commands.specs.Verifying.{verify_fully}
 use Rattle.root_commands.proofs.Answering.{installed_are}
 use Rattle.root_commands.proofs.VerifyEnds.{found_of_system, Searched}
-use Rattle.system_core.proofs.Held.{OneDatabase}
+use Rattle.cli_call.proofs.system-core.Held.{OneDatabase}
 
 -- the laws of repositories that are called upon
 pub record VerifyingLaws : Type 0 where

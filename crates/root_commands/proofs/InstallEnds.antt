@@ -21,8 +21,8 @@ use Rattle.cli_call.specs.content-store.declared.contents.NoContents.{NoContents
 use Rattle.cny_manifest.specs.declared.made.Made.{Made}
 use Rattle.cny_manifest.specs.FirstFault.{IsFaultOf}
 use Rattle.cny_manifest.specs.Makes.{HasOwnContents, Makes}
-use Rattle.system_core.specs.declared.done.Done.{Done}
-use Rattle.system_core.specs.Steps.{HasStepCause, HasOwnCause}
+use Rattle.cli_call.specs.system-core.declared.done.Done.{Done}
+use Rattle.cli_call.specs.system-core.Steps.{HasStepCause, HasOwnCause}
 use Rattle.cli_call.specs.cny-laws.declared.opened.Opened.{Opened}
 use Rattle.cli_call.specs.Alone.{PerformsAlone}
 use Rattle.cli_call.proofs.AloneLaws.{AnswersAlone, fault_undamaged}
@@ -37,7 +37,7 @@ use Rattle.cli_call.specs.cny-laws.Stores.{repository_store}
 use Rattle.update_job.specs.Allowed.{AreAllowed, IsFirstReserved}
 use Rattle.root_commands.specs.Install.{first_reserved, install, install_made, InstallsMade, UnlessReserved}
 use Rattle.update_job.specs.trove-stream.Forbidden.{IsAllowed}
-use Rattle.system_core.proofs.CallLaws.{no_rise as none_rose}
+use Rattle.cli_call.proofs.system-core.CallLaws.{no_rise as none_rose}
 
 -- ---- paths that no trove may record
 

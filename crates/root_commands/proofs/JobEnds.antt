@@ -19,7 +19,7 @@ use Rattle.rollback_stack.specs.JobReading.{HoldsNoRecord, HoldsRecord, HoldsRec
 use Rattle.rollback_stack.specs.Numbers.{job_count}
 use Rattle.rollback_stack.specs.Reading.{AreNotes, IsAllStop}
 use Rattle.rollback_stack.specs.declared.undo.NotedJob.{NotedJob}
-use Rattle.system_core.proofs.NewestStored.{job_record}
+use Rattle.cli_call.proofs.system-core.NewestStored.{job_record}
 use Rattle.cny_report.specs.declared.note.Note.{Note}
 use Rattle.cli_call.specs.cny-laws.declared.failure.Failure.{Failure}
 use Rattle.cli_call.specs.cny-laws.declared.opened.Opened.{Opened}
@@ -33,8 +33,8 @@ use Rattle.cli_call.specs.cny-laws.Stores.{root_store}
 use Rattle.cli_call.specs.Answer.{answer}
 use Rattle.root_commands.specs.Jobs.{AreNotesOf, list_jobs}
 use Rattle.root_commands.specs.Noting.{AreJobsNoted, AreToldBy}
-use Rattle.system_core.proofs.Migration.{AreFrom, OneRecord, from_newest, count_of}
-use Rattle.system_core.proofs.Held.{OneDatabase}
+use Rattle.cli_call.proofs.system-core.Migration.{AreFrom, OneRecord, from_newest, count_of}
+use Rattle.cli_call.proofs.system-core.Held.{OneDatabase}
 use Rattle.local_db.proofs.cny-base.Lists.{length-map as mapped_length}
 
 -- ---- by the records that a stack holds

@@ -19,19 +19,19 @@ use Rattle.local_db.specs.Stores.{HoldsDatabase}
 use Rattle.local_db.specs.SystemState.{newest, IsSystemState}
 use Rattle.update_job.specs.Changes.{AreChanges}
 use Rattle.update_job.specs.Lists.{IsErased, IsOld, IsUpdated, Stays}
-use Rattle.system_core.specs.declared.done.Done.{Done}
-use Rattle.system_core.specs.Answers.{AnswersCall, AnswersDone, AnswersRefusal, HasWrites, collided, last, no_list, untested}
-use Rattle.system_core.specs.Job as job
-use Rattle.system_core.specs.Job.{IsTestRefusal, IsTested, PassesTests, Sources, db_of}
-use Rattle.system_core.specs.JobWriting.{AnswersJob}
-use Rattle.system_core.specs.Last.{ChangesNeither, IsRefusedLast, PassesLast, db_after}
-use Rattle.system_core.specs.Lists.{ListStep}
-use Rattle.system_core.specs.Steps as steps
-use Rattle.system_core.specs.Steps.{HasOwnCause, IsRefusal}
-use Rattle.system_core.proofs.CallLaws.{erased_allowed, updated_allowed}
-use Rattle.system_core.proofs.JobNumbers.{number_is, oldest_pushed}
-use Rattle.system_core.proofs.Managed.{IsManaged, KeepsOut}
-use Rattle.system_core.proofs.ManagedTargets.{test_refusal_managed, tested_managed}
+use Rattle.cli_call.specs.system-core.declared.done.Done.{Done}
+use Rattle.cli_call.specs.system-core.Answers.{AnswersCall, AnswersDone, AnswersRefusal, HasWrites, collided, last, no_list, untested}
+use Rattle.cli_call.specs.system-core.Job as job
+use Rattle.cli_call.specs.system-core.Job.{IsTestRefusal, IsTested, PassesTests, Sources, db_of}
+use Rattle.cli_call.specs.system-core.JobWriting.{AnswersJob}
+use Rattle.cli_call.specs.system-core.Last.{ChangesNeither, IsRefusedLast, PassesLast, db_after}
+use Rattle.cli_call.specs.system-core.Lists.{ListStep}
+use Rattle.cli_call.specs.system-core.Steps as steps
+use Rattle.cli_call.specs.system-core.Steps.{HasOwnCause, IsRefusal}
+use Rattle.cli_call.proofs.system-core.CallLaws.{erased_allowed, updated_allowed}
+use Rattle.cli_call.proofs.system-core.JobNumbers.{number_is, oldest_pushed}
+use Rattle.cli_call.proofs.system-core.Managed.{IsManaged, KeepsOut}
+use Rattle.cli_call.proofs.system-core.ManagedTargets.{test_refusal_managed, tested_managed}
 use Rattle.cny_report.specs.Jobs.{changes_text}
 use Rattle.cli_call.specs.cny-laws.declared.failure.Failure.{Failure}
 use Rattle.cli_call.specs.cny-laws.declared.opened.Opened.{Opened}

@@ -16,13 +16,13 @@ use Rattle.update_job.specs.declared.comparing.Change.{Change}
 use Rattle.update_job.specs.Changes.{AreChanges}
 use Rattle.local_db.specs.declared.format.Format.TheVariants.{Two}
 use Rattle.local_db.specs.Steps.{after_job, old_of}
-use Rattle.system_core.specs.RootWriting as writes
-use Rattle.system_core.specs.Last.{ChangesNeither, PassesLast}
-use Rattle.system_core.specs.JobWriting as settling
-use Rattle.system_core.specs.declared.done.Done.{Done}
-use Rattle.system_core.specs.Job.{PassesTests, Sources, db_of}
-use Rattle.system_core.specs.Lists.{ListStep}
-use Rattle.system_core.specs.Steps.{StepEnds, StaysOrChanges, IsStepDone, StopsOnTheWay, changed, reading, unchanged, writing}
+use Rattle.cli_call.specs.system-core.RootWriting as writes
+use Rattle.cli_call.specs.system-core.Last.{ChangesNeither, PassesLast}
+use Rattle.cli_call.specs.system-core.JobWriting as settling
+use Rattle.cli_call.specs.system-core.declared.done.Done.{Done}
+use Rattle.cli_call.specs.system-core.Job.{PassesTests, Sources, db_of}
+use Rattle.cli_call.specs.system-core.Lists.{ListStep}
+use Rattle.cli_call.specs.system-core.Steps.{StepEnds, StaysOrChanges, IsStepDone, StopsOnTheWay, changed, reading, unchanged, writing}
 use Rattle.cny_report.specs.Jobs.{changes_text}
 use Rattle.cli_call.specs.cny-laws.declared.failure.Failure.{Failure}
 use Rattle.cli_call.specs.cny-laws.declared.failure.Failure.TheVariants as failure

@@ -31,8 +31,8 @@ use Rattle.local_db.proofs.cny-base.Lists.{nothing_in, place_in}
 use Rattle.update_job.specs.declared.comparing.Change.{Change}
 use Rattle.update_job.specs.Changes.{AreChanges, IsChange, IsFresh}
 use Rattle.update_job.proofs.Mapped.{one_named}
-use Rattle.system_core.specs.Job.{Sources}
-use Rattle.system_core.specs.Lists.{to_list}
+use Rattle.cli_call.specs.system-core.Job.{Sources}
+use Rattle.cli_call.specs.system-core.Lists.{to_list}
 use Rattle.cny_report.specs.Troves.{nothing_changes}
 use Rattle.cli_call.specs.Answer.{answer}
 use Rattle.cli_call.specs.cny-laws.State.{after, Change as Step, Effect, RootState, State}

@@ -19,3 +19,5 @@ pub mod ComingEnds
 pub mod SpecEnds
 pub mod SyncEnds
 pub mod JobStays
+pub use Rattle.cli_call.proofs as cli-call
+pub use Rattle.sys_model.proofs as sys-model

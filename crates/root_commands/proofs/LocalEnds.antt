@@ -36,7 +36,7 @@ use Rattle.cli_call.specs.cny-laws.Stores.{root_store}
 use Rattle.root_commands.specs.LocalChanges.{change_locally}
 use Rattle.root_commands.proofs.Answering.{IsSeen}
 use Rattle.root_commands.proofs.Verified.{AreOuter, files_outer, records_outer}
-use Rattle.system_core.proofs.Held.{OneDatabase}
+use Rattle.cli_call.proofs.system-core.Held.{OneDatabase}
 use Rattle.local_db.proofs.cny-base.Lists.{contains_at, contains_first, contains_rest}
 
 -- ---- what is seen outside the private directory

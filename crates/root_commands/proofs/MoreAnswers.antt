@@ -21,10 +21,10 @@ use Rattle.cli_call.specs.job-targets.Contents.{Finds, FindsBehind, carried_byte
 use Rattle.cli_call.specs.job-targets.Outcome.{AreTargets, IsFirstRefusal, IsMissing, IsUnfound}
 use Rattle.cli_call.specs.job-targets.Targets.{ArePutsOf, IsTarget}
 use Rattle.local_db.specs.SystemState.{SystemState}
-use Rattle.system_core.specs.declared.done.Done.{Done}
-use Rattle.system_core.specs.Job.{IsJobRefusal, IsTestRefusal, IsTested, PassesTests, last, sources_of, unmet, unplanned, untargeted, untested}
-use Rattle.system_core.specs.Lists.{ListStep}
-use Rattle.system_core.specs.Steps.{StepEnds, IsStepDone, StopsOnTheWay, IsRefusal, no_job, no_list, reading, writing}
+use Rattle.cli_call.specs.system-core.declared.done.Done.{Done}
+use Rattle.cli_call.specs.system-core.Job.{IsJobRefusal, IsTestRefusal, IsTested, PassesTests, last, sources_of, unmet, unplanned, untargeted, untested}
+use Rattle.cli_call.specs.system-core.Lists.{ListStep}
+use Rattle.cli_call.specs.system-core.Steps.{StepEnds, IsStepDone, StopsOnTheWay, IsRefusal, no_job, no_list, reading, writing}
 use Rattle.update_job.specs.cny-base.Sized.{of_size}
 
 module _ (carried : List Carried) (options : Options) (one two : Answers) (more : (name : List ℕ) (found : Option (List ℕ)) → one name found → two name found) where

@@ -28,11 +28,11 @@ use Rattle.rollback_stack.specs.Inverse.{IsBackRefusal, IsDamagedJob, IsOldWant,
 use Rattle.rollback_stack.specs.Numbers.{job_count}
 use Rattle.rollback_stack.specs.Reading.{AreNotes, IsAllStop}
 use Rattle.rollback_stack.proofs.Noting.{records_push}
-use Rattle.system_core.specs.Several.{HasTakenBackTo, IsStepTo, StopsTo}
+use Rattle.cli_call.specs.system-core.Several.{HasTakenBackTo, IsStepTo, StopsTo}
 use Rattle.cli_call.specs.cny-laws.declared.failure.Failure.{Failure}
 use Rattle.cli_call.specs.cny-laws.Stops.{root_failure, root_result}
 use Rattle.root_commands.specs.Records.{IsDamagedOfAll, IsUnsavedContent, ListsWhole, NoneIs, TakesBackWhole, last_job}
-use Rattle.system_core.proofs.Migration.{OneRecord}
+use Rattle.cli_call.proofs.system-core.Migration.{OneRecord}
 use Rattle.local_db.proofs.cny-base.Lists.{all_at as all_middle}
 use Rattle.local_db.proofs.cny-base.OptionValues.{same_some}
 

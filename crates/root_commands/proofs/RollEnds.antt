@@ -15,8 +15,8 @@ use Rattle.local_db.specs.SystemState.{AreNumbered, StackItem, SystemState, is_l
 use Rattle.local_db.specs.Steps.{after_rollback, after_rollbacks}
 use Rattle.local_db.specs.Stores.{StoresIn}
 use Rattle.rollback_stack.specs.Inverse.{IsDamagedJob, IsFirstDamagedContent}
-use Rattle.system_core.specs.Rollback.{HasRollbackCause}
-use Rattle.system_core.specs.Several.{AreTakenBack, CanTakeBackTo, EndsTo, HasTakenBackTo, IsRefusalKindTo, IsRefusalTo, RollsBackTo, StopsTo, jobs_below, jobs_to, paths_of_jobs, rolled_back_to}
+use Rattle.cli_call.specs.system-core.Rollback.{HasRollbackCause}
+use Rattle.cli_call.specs.system-core.Several.{AreTakenBack, CanTakeBackTo, EndsTo, HasTakenBackTo, IsRefusalKindTo, IsRefusalTo, RollsBackTo, StopsTo, jobs_below, jobs_to, paths_of_jobs, rolled_back_to}
 use Rattle.cny_report.specs.Jobs.{rolled_back_text}
 use Rattle.cli_call.specs.cny-laws.declared.failure.Failure.{Failure}
 use Rattle.cli_call.specs.cny-laws.declared.failure.Failure.TheVariants as failure
@@ -32,7 +32,7 @@ use Rattle.cli_call.specs.cny-laws.Stores.{repository_store, root_store}
 use Rattle.root_commands.specs.Records.{last_job}
 use Rattle.root_commands.specs.RollingBack.{meant_number, roll_back, take_back}
 use Rattle.root_commands.proofs.TakingBack.{CausesBack, EndsBack, StopsBack, TakenBack, Ways, failed_alone, failed_performs, memory_alone, memory_performs, told_alone, told_performs}
-use Rattle.system_core.proofs.Held.{OneDatabase}
+use Rattle.cli_call.proofs.system-core.Held.{OneDatabase}
 use Rattle.local_db.proofs.cny-base.Lists.{contains_first, contains_rest}
 use Rattle.local_db.proofs.Systems.{newest_rest as newest_below, numbered_rest as tail_numbered}
 use Rattle.local_db.proofs.tree-disk.Children.{or_none as or_false}

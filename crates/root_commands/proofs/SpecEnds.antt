@@ -18,14 +18,14 @@ use Rattle.repo_load.specs.State.{troves_of, AreFollowing, Commit}
 use Rattle.repo_load.specs.Loading.{IsCatalogue}
 use Rattle.cli_call.specs.Command.{Disks, AreReady, StandsFor}
 use Rattle.cli_call.specs.cny-laws.State.{tree_of, Effect, State}
-use Rattle.system_core.specs.Lists.{AllPathsAllowed}
+use Rattle.cli_call.specs.system-core.Lists.{AllPathsAllowed}
 use Rattle.trove_spec.specs.declared.given.GivenSpec.{GivenSpec}
 use Rattle.trove_spec.specs.AndThen.{AndThen, EndsAs}
 use Rattle.trove_spec.specs.Meant.{Means}
 use Rattle.cli_call.proofs.ReadingEnds.{CatalogueIs, config_of, troves_are}
 use Rattle.root_commands.specs.Update.{UpdatesTo}
 use Rattle.root_commands.proofs.ComingEnds.{same_installed}
-use Rattle.system_core.proofs.Held.{OneDatabase}
+use Rattle.cli_call.proofs.system-core.Held.{OneDatabase}
 use Rattle.root_commands.specs.UpdateSpecs.{AreMeant, BringAll, MeanAll, ReachAll, UpdatesFrom}
 use Rattle.update_job.specs.trove-stream.Forbidden.{IsAllowed}
 use Rattle.local_db.proofs.cny-base.Lists.{split_at}

@@ -9,12 +9,12 @@ use Rattle.cli_call.specs.tree-disk.Disk.{DiskModel, IsDisk, HasRead}
 use Rattle.local_db.specs.declared.db.Db.{Db}
 use Rattle.local_db.specs.declared.format.Format.TheVariants.{Two}
 use Rattle.local_db.specs.Stores.{StoresIn}
-use Rattle.system_core.specs.Opening.{IsSettledRoot}
-use Rattle.system_core.specs.declared.done.Done.{Done}
-use Rattle.system_core.specs.Answers.{AnswersCall, AnswersRefusal, collided, no_list, untested, last}
-use Rattle.system_core.specs.Job.{Sources}
-use Rattle.system_core.specs.Lists.{ListStep}
-use Rattle.system_core.specs.Steps.{StepEnds, HasOwnCause}
+use Rattle.cli_call.specs.system-core.Opening.{IsSettledRoot}
+use Rattle.cli_call.specs.system-core.declared.done.Done.{Done}
+use Rattle.cli_call.specs.system-core.Answers.{AnswersCall, AnswersRefusal, collided, no_list, untested, last}
+use Rattle.cli_call.specs.system-core.Job.{Sources}
+use Rattle.cli_call.specs.system-core.Lists.{ListStep}
+use Rattle.cli_call.specs.system-core.Steps.{StepEnds, HasOwnCause}
 use Rattle.cny_report.specs.Jobs.{changes_text}
 use Rattle.cli_call.specs.cny-laws.declared.failure.Failure.{Failure}
 use Rattle.cli_call.specs.cny-laws.declared.failure.Failure.TheVariants as failure
@@ -33,7 +33,7 @@ use Rattle.root_commands.specs.JobOutcome.{JobOutcome}
 use Rattle.root_commands.proofs.Answering.{stored_two}
 use Rattle.root_commands.proofs.JobStates as states
 use Rattle.root_commands.proofs.JobStates.{IsUndamaged}
-use Rattle.system_core.proofs.Held.{OneDatabase}
+use Rattle.cli_call.proofs.system-core.Held.{OneDatabase}
 
 -- what a refusal leaves, or a stop at a damaged content, on each root
 abbrev pub ReadsAtRefusal : {D : Type 0} → DiskModel D → D → D → Stop → Type 0

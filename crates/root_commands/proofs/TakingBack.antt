@@ -14,7 +14,7 @@ use Rattle.local_db.specs.declared.db.Db.{Db}
 use Rattle.local_db.specs.declared.format.Format.TheVariants.{Two}
 use Rattle.local_db.specs.SystemState.{is_listed}
 use Rattle.local_db.specs.Stores.{HoldsDatabase, StoresIn}
-use Rattle.system_core.specs.Rollback.{HasOnlyRead, MovesSystem}
+use Rattle.cli_call.specs.system-core.Rollback.{HasOnlyRead, MovesSystem}
 use Rattle.cli_call.specs.cny-laws.declared.failure.Failure.{Failure}
 use Rattle.cli_call.specs.cny-laws.declared.failure.Failure.TheVariants as failure
 use Rattle.cli_call.specs.cny-laws.declared.opened.Opened.{Opened}
@@ -34,7 +34,7 @@ use Rattle.cli_call.specs.cny-laws.Stores.{root_store, repository_store, HasDama
 use Rattle.cli_call.proofs.RootResults.{root_ok, same_failure}
 use Rattle.root_commands.proofs.Answering.{stored_two}
 use Rattle.root_commands.specs.RollingBack.{IsBack}
-use Rattle.system_core.proofs.Held.{OneDatabase}
+use Rattle.cli_call.proofs.system-core.Held.{OneDatabase}
 
 -- how it ends by a system: with what is answered to it, or with a refusal
 abbrev pub EndsBack : {N : Type 0} → (N → Type 0) → (Refusal → Type 0) → Result N Stop → Type 0

@@ -24,9 +24,9 @@ use Rattle.cli_call.specs.Answer.{answer}
 use Rattle.root_commands.specs.Verifying.{no_contents, verify_installed}
 use Rattle.root_commands.proofs.Answering.{rests_seen, IsSeen}
 use Rattle.root_commands.proofs.Verified.{asked_outer, verified_same}
-use Rattle.system_core.proofs.Held.{OneDatabase}
+use Rattle.cli_call.proofs.system-core.Held.{OneDatabase}
 use Rattle.root_edits.specs.Local.{records}
-use Rattle.system_core.proofs.CallLaws.{no_rise as none_rose}
+use Rattle.cli_call.proofs.system-core.CallLaws.{no_rise as none_rose}
 
 -- what a verification with these contents says
 abbrev pub Searched : {T C : Type 0} → DiskModel T → ContentsModel C → List (List ℕ) → List TroveParts → T → T → C → C → Result Verified Stop → Type 0

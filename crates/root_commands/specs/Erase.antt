@@ -1,8 +1,8 @@
 -- What `erase` means.
 use Rattle.std.specs.Prelude.{ℕ, false, List, []}
 use Rattle.cli_call.specs.cny-base.declared.options.Options.{Options}
-use Rattle.system_core.specs.Job.{no_answers, sources_of}
-use Rattle.system_core.specs.Lists.{to_erased}
+use Rattle.cli_call.specs.system-core.Job.{no_answers, sources_of}
+use Rattle.cli_call.specs.system-core.Lists.{to_erased}
 use Rattle.cli_call.specs.cny-laws.State.{Meaning}
 use Rattle.root_commands.specs.JobOutcome.{JobOutcome}
 

@@ -7,8 +7,8 @@ use Rattle.cli_call.specs.cny-base.declared.refusal.Refusal.TheVariants as refus
 use Rattle.cli_call.specs.trove-stream.declared.parts.TroveParts.{TroveParts}
 use Rattle.cli_call.specs.trove-stream.Forbidden.{first_forbidden}
 use Rattle.cny_manifest.specs.declared.made.Made.{Made}
-use Rattle.system_core.specs.Job.{no_answers, sources_of}
-use Rattle.system_core.specs.Lists.{to_updated}
+use Rattle.cli_call.specs.system-core.Job.{no_answers, sources_of}
+use Rattle.cli_call.specs.system-core.Lists.{to_updated}
 use Rattle.cli_call.specs.cny-laws.State.{Effect, Meaning, RootState}
 use Rattle.cli_call.specs.ManifestInput.{OfManifest}
 use Rattle.root_commands.specs.JobOutcome.{JobOutcome}

@@ -6,10 +6,10 @@ use Rattle.cli_call.specs.trove-stream.declared.parts.TroveParts.{TroveParts}
 use Rattle.update_job.specs.declared.comparing.Change.{Change}
 use Rattle.update_job.specs.Changes.{AreChanges}
 use Rattle.local_db.specs.Steps.{after_job}
-use Rattle.system_core.specs.Last.{ChangesNeither, PassesLast}
-use Rattle.system_core.specs.Job.{PassesTests, Sources, db_of}
-use Rattle.system_core.specs.Lists.{ListStep}
-use Rattle.system_core.specs.Steps.{IsRefusal}
+use Rattle.cli_call.specs.system-core.Last.{ChangesNeither, PassesLast}
+use Rattle.cli_call.specs.system-core.Job.{PassesTests, Sources, db_of}
+use Rattle.cli_call.specs.system-core.Lists.{ListStep}
+use Rattle.cli_call.specs.system-core.Steps.{IsRefusal}
 use Rattle.cny_report.specs.Jobs.{changes_text}
 use Rattle.cli_call.specs.cny-laws.State.{nothing, on_root, Change as Step, Effect, RootState}
 

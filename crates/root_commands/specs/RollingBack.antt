@@ -2,7 +2,7 @@
 use Rattle.std.specs.Prelude.{◌≡◌, ℕ, false, List, length, Option, Some, None, Result, Ok, Err}
 use Rattle.cli_call.specs.cny-base.declared.refusal.Refusal.{Refusal}
 use Rattle.local_db.specs.SystemState.{newest}
-use Rattle.system_core.specs.Several.{CanTakeBackTo, IsRefusalTo, jobs_to, rolled_back_to}
+use Rattle.cli_call.specs.system-core.Several.{CanTakeBackTo, IsRefusalTo, jobs_to, rolled_back_to}
 use Rattle.cny_report.specs.Jobs.{rolled_back_text}
 use Rattle.cli_call.specs.cny-laws.State.{on_root, Effect, Meaning, RootState}
 

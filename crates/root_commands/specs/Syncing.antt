@@ -10,7 +10,7 @@ use Rattle.trove_spec.specs.RootConfig.{HasConfig}
 use Rattle.sys_model.specs.declared.model.Model.{Model}
 use Rattle.sys_model.specs.RootModel.{HasModel}
 use Rattle.sys_model.specs.Wanted.{Wants}
-use Rattle.system_core.specs.Lists.{to_list, ListStep}
+use Rattle.cli_call.specs.system-core.Lists.{to_list, ListStep}
 use Rattle.cli_call.specs.cny-laws.State.{tree_of, Effect, Meaning, State}
 use Rattle.root_commands.specs.Update.{JobFrom, job_from}
 

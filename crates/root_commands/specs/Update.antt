@@ -8,8 +8,8 @@ use Rattle.cli_call.specs.change-set.declared.change.ChangeSet.{ChangeSet}
 use Rattle.cli_call.specs.change-set.declared.change.Part.{Part}
 use Rattle.update_job.specs.Made.{AreMade, IsFirstRefused}
 use Rattle.cli_call.specs.content-store.Contents.{Answers, ContentMap}
-use Rattle.system_core.specs.Job.{sources_of}
-use Rattle.system_core.specs.Lists.{to_updated, ListStep}
+use Rattle.cli_call.specs.system-core.Job.{sources_of}
+use Rattle.cli_call.specs.system-core.Lists.{to_updated, ListStep}
 use Rattle.cli_call.specs.cny-laws.State.{Effect, Meaning, State}
 use Rattle.cli_call.specs.SetInput.{OfChangeSet}
 use Rattle.trove_spec.specs.AndThen.{AndThen}

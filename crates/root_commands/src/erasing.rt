@@ -5,12 +5,12 @@ ghost use Rattle.cli_call.specs.Command.{disks, AreReady, Performs};
 ghost use Rattle.root_commands.specs.Erase as spec;
 
 use cli_call::cny_base::{Name, Options, Text};
+use cli_call::system_core::erase;
 use cli_call::tree_disk::TreeDisk;
 use cli_call::{Failure, Opened, on_root, store_laws};
 use cny_report::changes_text;
 use local_db::distinct_databases;
 use std::alloc::Global;
-use system_core::erase;
 
 /// Takes the troves of these names away, with what they reach by references and no other installed trove keeps: a line `erased T` for
 /// each, in the order of their names, or `nothing changes`. It takes effect as a whole or not at all, whenever the machine stops.

@@ -4,18 +4,18 @@ ghost use Rattle.cli_call.specs.trove-stream.Trove.{IsTrove};
 ghost use Rattle.cny_manifest.specs.Makes.{HasOwnContents};
 ghost use Rattle.cli_call.specs.Alone.{AnswersByOpened, PerformsAlone};
 ghost use Rattle.cli_call.specs.Command.{disks, AreReady, Performs};
-ghost use Rattle.system_core.specs.Lists.{AllPathsAllowed};
+ghost use Rattle.cli_call.specs.system-core.Lists.{AllPathsAllowed};
 ghost use Rattle.root_commands.specs.Install as spec;
 
 use cli_call::cny_base::{Options, Text};
 use cli_call::content_store::NoContents;
+use cli_call::system_core::update;
 use cli_call::tree_disk::TreeDisk;
 use cli_call::{Failure, Opened, on_root, store_laws};
 use cny_manifest::{Made, read};
 use cny_report::changes_text;
 use local_db::distinct_databases;
 use std::alloc::Global;
-use system_core::update;
 use update_job::check_allowed;
 
 // The job of the troves that a manifest makes, with its contents, and nothing else.

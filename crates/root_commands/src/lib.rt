@@ -17,6 +17,7 @@ mod syncing;
 mod updating;
 mod verifying;
 
+pub use cli_call;
 pub use erasing::erase_troves;
 pub use installing::install_manifest;
 pub use jobs::list_jobs;

@@ -6,13 +6,13 @@ ghost use Rattle.root_commands.specs.Records.{TakesBackWhole, last_job};
 ghost use Rattle.root_commands.specs.RollingBack as spec;
 
 use cli_call::cny_base::Text;
+use cli_call::system_core::rollback_to;
 use cli_call::tree_disk::TreeDisk;
 use cli_call::{Failure, Opened, on_root, store_laws};
 use cny_report::rolled_back_text;
 use local_db::{Db, distinct_databases};
 use rollback_stack::one_record;
 use std::alloc::Global;
-use system_core::rollback_to;
 
 // The number of the last job that is taken back: without one that of the newest.
 fn last_of(number: Option<u32>, db: &Db) -> u32

@@ -5,7 +5,7 @@ ghost use Rattle.cli_call.specs.Command.{disks, AreReady, Performs};
 ghost use Rattle.cli_call.specs.tree-disk.Disk.{Reads};
 ghost use Rattle.trove_spec.specs.AndThen.{EndsAs};
 ghost use Rattle.dep_resolve.specs.Rounds.{Completes};
-ghost use Rattle.system_core.specs.Lists.{AllPathsAllowed};
+ghost use Rattle.cli_call.specs.system-core.Lists.{AllPathsAllowed};
 ghost use Rattle.root_commands.specs.UpdateSpecs as spec;
 ghost use Rattle.root_commands.specs.UpdateSpecs.{BringAll, MeanAll, ReachAll};
 

@@ -2,10 +2,11 @@
 ghost use Rattle.std.specs.Prelude.{List, ℕ, OnOk};
 ghost use Rattle.cli_call.specs.Command.{disks, AreReady, Performs};
 ghost use Rattle.cli_call.specs.tree-disk.Disk.{Reads};
-ghost use Rattle.system_core.specs.Lists.{AllPathsAllowed};
+ghost use Rattle.cli_call.specs.system-core.Lists.{AllPathsAllowed};
 ghost use Rattle.root_commands.specs.Syncing as spec;
 
 use cli_call::cny_base::{Options, Text};
+use cli_call::system_core::adopt;
 use cli_call::tree_disk::TreeDisk;
 use cli_call::trove_stream::Installed;
 use cli_call::{Failure, Opened, on_root, store_laws};
@@ -14,7 +15,6 @@ use local_db::distinct_databases;
 use repo_load::{RepoContents, stored_state};
 use std::alloc::Global;
 use sys_model::{Model, read_model, wanted};
-use system_core::adopt;
 use trove_spec::{Config, read_config};
 
 // The job with this list after it, with the contents of the repository.

@@ -6,11 +6,12 @@ ghost use Rattle.cli_call.specs.change-set.declared.change.Carried as carried_co
 ghost use Rattle.cli_call.specs.change-set.ChangeSet.{content_cmp, HasContents};
 ghost use Rattle.cli_call.specs.Command.{disks, AreReady, Performs};
 ghost use Rattle.cli_call.specs.tree-disk.Disk.{Reads};
-ghost use Rattle.system_core.specs.Lists.{AllPathsAllowed};
+ghost use Rattle.cli_call.specs.system-core.Lists.{AllPathsAllowed};
 ghost use Rattle.root_commands.specs.Update as spec;
 
 use cli_call::change_set::{Carried, ChangeSet, decode};
 use cli_call::cny_base::{Options, Text};
+use cli_call::system_core::update;
 use cli_call::tree_disk::TreeDisk;
 use cli_call::trove_stream::Trove;
 use cli_call::{Failure, Opened, on_root, store_laws};
@@ -18,7 +19,6 @@ use cny_report::changes_text;
 use local_db::distinct_databases;
 use repo_load::{RepoContents, stored_state};
 use std::alloc::Global;
-use system_core::update;
 use update_job::applied;
 
 // The job of these troves, with the contents that come along and those of the repository.

@@ -1,10 +1,10 @@
 use Rattle.std.proofs.Common.{refl, subst}
-use Rattle.cli_call.specs.Alone.{AnswersByOpened, AnswersByTree, PerformsAlone}
-use Rattle.cli_call.specs.Command.{AreReady, disks, Performs}
+use Rattle.root_commands.specs.cli-call.Alone.{AnswersByOpened, AnswersByTree, PerformsAlone}
+use Rattle.root_commands.specs.cli-call.Command.{AreReady, disks, Performs}
 use Rattle.conary_cli.specs.Commands.{erasing, verify}
 use Rattle.root_commands.specs.Erase.{erase}
 use Rattle.root_commands.specs.UpdateSpecs.{update_specs}
-use Rattle.conary_cli.proofs.Performing.{again_as, never, on_both, on_catalogue, on_list, on_records, on_repository, on_root, on_tree, performs_as, untouched}
+use Rattle.conary_cli.proofs.Performing.{again_as, never, on_both, on_catalogue, on_contents, on_list, on_records, on_repository, on_root, on_tree, performs_as, untouched}
 use Rattle.conary_cli.proofs.commands.perform.Goals as goal
 
 pub returns-in-Install-clause-performs : goal.returns-in-Install-clause-performs
@@ -120,6 +120,27 @@ returns-in-SendChanges-clause-performs g c =
     performs_as _ _ c.args.input.now old new c.send_changes.result _ c.in-SendChanges.is refl
     (on_both g.met.T.TreeDisk.laws g.met.P.TreeDisk.laws c.args.input.now old new c.send_changes.result _ refl refl refl refl (never _ refl) (never _ refl) (c.send_changes.ensures.performs c.args.input.now) (λ is. c.send_changes.ensures.root_read) (λ is. c.send_changes.ensures.repo_read) (λ path none. none) (λ path none. none))
 
+pub returns-in-Serve-clause-performs : goal.returns-in-Serve-clause-performs
+returns-in-Serve-clause-performs g c =
+    let old = disks c.args.root.now c.args.repo.now c.args.opened.now in
+    let new = disks c.args.root.now c.serve_requests.new.repo c.args.opened.now in
+    performs_as _ _ c.args.input.now old new c.serve_requests.result _ c.in-Serve.is refl
+    (on_contents g.met.T.TreeDisk.laws g.met.P.TreeDisk.laws c.args.input.now old new c.serve_requests.result c.requires _ refl refl refl refl c.serve_requests.ensures.acts c.serve_requests.ensures.repo_read (λ path none. none) (λ path none. none))
+
+pub returns-in-AskMirror-clause-performs : goal.returns-in-AskMirror-clause-performs
+returns-in-AskMirror-clause-performs g c =
+    let old = disks c.args.root.now c.args.repo.now c.args.opened.now in
+    let new = disks c.args.root.now c.args.repo.now c.args.opened.now in
+    performs_as _ _ c.args.input.now old new c.ask_mirror.result _ c.in-AskMirror.is refl
+    (on_catalogue g.met.T.TreeDisk.laws g.met.P.TreeDisk.laws c.args.input.now old new c.ask_mirror.result c.requires _ refl refl refl (c.ask_mirror.ensures.acts c.args.input.now) (c.ask_mirror.ensures.lists c.args.input.now) (λ path none. none) (λ path none. none))
+
+pub returns-in-TakeMirror-clause-performs : goal.returns-in-TakeMirror-clause-performs
+returns-in-TakeMirror-clause-performs g c =
+    let old = disks c.args.root.now c.args.repo.now c.args.opened.now in
+    let new = disks c.args.root.now c.take_mirror.new.repo c.take_mirror.new.opened in
+    performs_as _ _ c.args.input.now old new c.take_mirror.result _ c.in-TakeMirror.is c.as_bytes-in-TakeMirror.ensures
+    (on_repository g.met.T.TreeDisk.laws g.met.P.TreeDisk.laws c.args.input.now old new c.take_mirror.result c.requires _ refl refl refl refl refl c.take_mirror.ensures.performs (λ path none. none) (λ path none. none))
+
 pub returns-in-Move-clause-performs : goal.returns-in-Move-clause-performs
 returns-in-Move-clause-performs g c =
     let old = disks c.args.root.now c.args.repo.now c.args.opened.now in
@@ -165,6 +186,9 @@ returns-in-Verify-clause-again g c = again_as (AreReady g.T.TreeDisk.disk g.P.Tr
 
 pub returns-in-ListJobs-clause-again : goal.returns-in-ListJobs-clause-again
 returns-in-ListJobs-clause-again g c = again_as (AreReady g.T.TreeDisk.disk g.P.TreeDisk.disk (disks c.list_jobs.new.root c.args.repo.now c.args.opened.now)) c.list_jobs.result c.as_bytes-in-ListJobs.result c.as_bytes-in-ListJobs.ensures c.list_jobs.ensures.again
+
+pub returns-in-TakeMirror-clause-again : goal.returns-in-TakeMirror-clause-again
+returns-in-TakeMirror-clause-again g c = again_as (AreReady g.T.TreeDisk.disk g.P.TreeDisk.disk (disks c.args.root.now c.take_mirror.new.repo c.take_mirror.new.opened)) c.take_mirror.result c.as_bytes-in-TakeMirror.result c.as_bytes-in-TakeMirror.ensures c.take_mirror.ensures.again
 
 pub returns-in-Move-clause-again : goal.returns-in-Move-clause-again
 returns-in-Move-clause-again g c = again_as (AreReady g.T.TreeDisk.disk g.P.TreeDisk.disk (disks c.commit_moved.new.root c.commit_moved.new.repo c.commit_moved.new.opened)) c.commit_moved.result c.as_bytes-in-Move.result c.as_bytes-in-Move.ensures c.commit_moved.ensures.again

@@ -1,9 +1,9 @@
 use Rattle.std.proofs.Common.{Bool, true, false, [], not, sym, ap, subst, ◌∙◌}
 use Rattle.std.proofs.lemmas.Bool.{false≢true}
-use Rattle.cli_call.specs.Alone.{AnswersByTree, PerformsAlone}
-use Rattle.cli_call.specs.Command.{disks, Performs}
+use Rattle.root_commands.specs.cli-call.Alone.{AnswersByTree, PerformsAlone}
+use Rattle.root_commands.specs.cli-call.Command.{disks, Performs}
 use Rattle.conary_cli.specs.Commands.{verify}
-use Rattle.cli_call.proofs.StoreLaws.{nothing_done}
+use Rattle.root_commands.proofs.cli-call.StoreLaws.{nothing_done}
 use Rattle.conary_cli.proofs.commands.verify.Goals as goal
 
 pub returns-then-full-clause-performs : goal.returns-then-full-clause-performs

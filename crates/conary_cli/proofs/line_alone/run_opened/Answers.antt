@@ -1,8 +1,8 @@
 use Rattle.std.proofs.Common.{Ok, refl, inl, inr}
 use Rattle.cny_flow.specs.Flow.{sink_state}
-use Rattle.cli_call.specs.Line.{moment}
-use Rattle.cli_call.specs.cny-laws.Reading.{left_by}
-use Rattle.cli_call.proofs.CallLaws.{opened_ready}
+use Rattle.root_commands.specs.cli-call.Line.{moment}
+use Rattle.root_commands.specs.cli-call.cny-laws.Reading.{left_by}
+use Rattle.root_commands.proofs.cli-call.CallLaws.{opened_ready}
 use Rattle.cny_version.proofs.cny-base.Passing.{err_is}
 use Rattle.conary_cli.specs.Commands.{RunsWords, meaning}
 use Rattle.conary_cli.specs.Program.{line_state, told_source}

@@ -1,6 +1,6 @@
 use Rattle.std.proofs.Common.{arith, ◌-◌, refl, ap, ◌+◌, ◌==◌, ℕ}
 use Rattle.cny_version.proofs.cny-base.Passing.{err_is}
-use Rattle.cli_call.specs.Line.{moment}
+use Rattle.root_commands.specs.cli-call.Line.{moment}
 use Rattle.cny_batch.specs.Demo.{demo_lines, line_count, lines_from}
 use Rattle.conary_cli.specs.Lines.{RunsLines, last_shown}
 use Rattle.conary_cli.proofs.DemoLines.{next_of_demo, none_of_demo}

@@ -1,6 +1,6 @@
 use Rattle.std.proofs.Common.{◌-◌}
-use Rattle.cli_call.specs.Command.{AreReady, disks}
-use Rattle.cli_call.specs.Line.{moment}
+use Rattle.root_commands.specs.cli-call.Command.{AreReady, disks}
+use Rattle.root_commands.specs.cli-call.Line.{moment}
 use Rattle.cny_batch.specs.Demo.{demo_lines, lines_from, line_count}
 use Rattle.conary_cli.specs.Lines.{last_shown}
 use Rattle.conary_cli.proofs.LinesRun.{GoesOn}

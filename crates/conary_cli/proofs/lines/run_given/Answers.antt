@@ -1,6 +1,6 @@
 use Rattle.std.proofs.Common.{ℕ, List, true, Ok, Err, subst}
 use Rattle.cny_version.proofs.cny-base.Passing.{err_is}
-use Rattle.cli_call.specs.Line.{moment}
+use Rattle.root_commands.specs.cli-call.Line.{moment}
 use Rattle.conary_cli.specs.Lines.{CallLine, GivesOf, RunsOf}
 use Rattle.conary_cli.specs.Commands.{meaning}
 use Rattle.conary_cli.proofs.LineWords.{line_done, ok_holds, refused_line}

@@ -1,6 +1,6 @@
 use Rattle.std.proofs.Common.{ℕ, List, false, Err, Ok, refl, subst}
 use Rattle.cny_version.proofs.cny-base.Passing.{err_is}
-use Rattle.cli_call.specs.Command.{disks}
+use Rattle.root_commands.specs.cli-call.Command.{disks}
 use Rattle.conary_cli.specs.Lines.{CallLine, GivesOf, RunsOf}
 use Rattle.conary_cli.specs.Commands.{meaning}
 use Rattle.conary_cli.proofs.LineWords.{at_out, line_done, refused_line}

@@ -1,7 +1,7 @@
 use Rattle.std.proofs.Common.{ap, arith, drop}
 use Rattle.std.proofs.lemmas.List.{drop_all}
 use Rattle.cny_version.proofs.cny-base.Passing.{err_is}
-use Rattle.cli_call.specs.Line.{moment}
+use Rattle.root_commands.specs.cli-call.Line.{moment}
 use Rattle.conary_cli.specs.Lines.{RunsLines, all_shown}
 use Rattle.conary_cli.proofs.LineWords.{next_shown}
 use Rattle.conary_cli.proofs.LinesRun.{all_run, goes_past, ready_after, stops_at}

@@ -1,6 +1,6 @@
 use Rattle.std.proofs.Common.{drop}
-use Rattle.cli_call.specs.Command.{AreReady, disks}
-use Rattle.cli_call.specs.Line.{moment}
+use Rattle.root_commands.specs.cli-call.Command.{AreReady, disks}
+use Rattle.root_commands.specs.cli-call.Line.{moment}
 use Rattle.conary_cli.specs.Lines.{all_shown}
 use Rattle.conary_cli.proofs.LinesRun.{GoesOn}
 use Rattle.conary_cli.proofs.lines.run_lines.Given as goal

@@ -1,7 +1,7 @@
 use Rattle.std.proofs.Common.{map}
 use Rattle.std.specs.Prelude.{string_bytes}
 use Rattle.cny_version.proofs.cny-base.Passing.{err_is}
-use Rattle.cli_call.specs.Line.{moment}
+use Rattle.root_commands.specs.cli-call.Line.{moment}
 use Rattle.conary_cli.specs.Lines.{CallLine, RunsOne}
 use Rattle.conary_cli.proofs.LineWords.{read_line, read_only, unread_line}
 use Rattle.conary_cli.proofs.lines.run_made.Goals as goal

@@ -1,7 +1,7 @@
 use Rattle.std.proofs.Common.{map}
 use Rattle.std.specs.Prelude.{string_bytes}
 use Rattle.cny_flow.specs.Flow.{sink_state}
-use Rattle.cli_call.specs.cny-laws.Call.{call_state}
+use Rattle.root_commands.specs.cli-call.cny-laws.Call.{call_state}
 use Rattle.conary_cli.proofs.ProgramEnds.{some_program, whole_program}
 use Rattle.conary_cli.proofs.program.run.Goals as goal
 

@@ -1,7 +1,7 @@
 use Rattle.std.proofs.Common.{refl, inl, inr}
-use Rattle.cli_call.specs.cny-laws.Call.{call_state}
-use Rattle.cli_call.specs.Runs.{RunsCall}
-use Rattle.cli_call.proofs.CallLaws.{opened_ready}
+use Rattle.root_commands.specs.cli-call.cny-laws.Call.{call_state}
+use Rattle.root_commands.specs.cli-call.Runs.{RunsCall}
+use Rattle.root_commands.proofs.cli-call.CallLaws.{opened_ready}
 use Rattle.conary_cli.specs.Commands.{meaning, scope_of}
 use Rattle.conary_cli.specs.Records.{EndsOpened}
 use Rattle.cny_version.proofs.cny-base.Passing.{err_is}

@@ -1,4 +1,4 @@
-use Rattle.cli_call.proofs.LineLaws.{line_written}
+use Rattle.root_commands.proofs.cli-call.LineLaws.{line_written}
 use Rattle.conary_cli.proofs.RecordEnds.{written_whole}
 use Rattle.conary_cli.proofs.program.run_command.Goals as goal
 

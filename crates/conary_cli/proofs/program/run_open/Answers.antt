@@ -1,6 +1,6 @@
 use Rattle.cny_flow.specs.Flow.{source_state}
-use Rattle.cli_call.specs.Runs.{RunsOpen}
-use Rattle.cli_call.specs.Line.{moment}
+use Rattle.root_commands.specs.cli-call.Runs.{RunsOpen}
+use Rattle.root_commands.specs.cli-call.Line.{moment}
 use Rattle.conary_cli.specs.Commands.{meaning, scope_of}
 use Rattle.conary_cli.specs.Records.{EndsWhole}
 use Rattle.conary_cli.proofs.Calls.{not_read, was_read}

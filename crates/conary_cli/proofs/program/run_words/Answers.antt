@@ -1,12 +1,12 @@
 use Rattle.std.proofs.Common.{Ok, map, inl, sym, subst}
 use Rattle.std.specs.Prelude.{string_bytes}
 use Rattle.cny_flow.specs.Flow.{sink_state, source_state}
-use Rattle.cli_call.specs.cny-laws.Call.{call_state}
+use Rattle.root_commands.specs.cli-call.cny-laws.Call.{call_state}
 use Rattle.conary_cli.specs.Program.{RunsProgram, RunsSomething}
-use Rattle.conary_cli.specs.Calls.{AreCall}
-use Rattle.conary_cli.specs.declared.call_words.Call.{Call}
-use Rattle.conary_cli.specs.declared.call_words.Call.TheVariants as call
-use Rattle.conary_cli.proofs.CallWords.{call_few}
+use Rattle.cli_words.specs.Calls.{AreCall}
+use Rattle.cli_words.specs.declared.call_words.Call.{Call}
+use Rattle.cli_words.specs.declared.call_words.Call.TheVariants as call
+use Rattle.cli_words.proofs.CallWords.{call_few}
 use Rattle.conary_cli.proofs.LineWords.{call_at}
 use Rattle.conary_cli.proofs.ProgramWords.{no_call, some_unread}
 use Rattle.cny_version.proofs.cny-base.Passing.{err_is}

@@ -1,7 +1,7 @@
 use Rattle.std.proofs.Common.{inl, inr, refl}
 use Rattle.cny_flow.specs.Flow.{source_state}
 use Rattle.cny_version.proofs.cny-base.Passing.{err_is}
-use Rattle.cli_call.specs.cny-laws.Failures.{failure_of_fault}
+use Rattle.root_commands.specs.cli-call.cny-laws.Failures.{failure_of_fault}
 use Rattle.conary_cli.specs.RunsSeveral.{ReadsBatch}
 use Rattle.conary_cli.proofs.BatchEnds.{fault_makes_none}
 use Rattle.conary_cli.proofs.several.read_lines.Goals as goal

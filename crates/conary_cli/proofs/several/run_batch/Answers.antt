@@ -1,6 +1,6 @@
 use Rattle.std.proofs.Common.{true, refl, inl, inr}
-use Rattle.cli_call.specs.cny-laws.Call.{call_state}
-use Rattle.cli_call.proofs.CallLaws.{opened_ready}
+use Rattle.root_commands.specs.cli-call.cny-laws.Call.{call_state}
+use Rattle.root_commands.proofs.cli-call.CallLaws.{opened_ready}
 use Rattle.cny_version.proofs.cny-base.Passing.{err_is}
 use Rattle.conary_cli.specs.RunsSeveral.{RunsSeveral}
 use Rattle.conary_cli.specs.Several.{AreBatchLines}

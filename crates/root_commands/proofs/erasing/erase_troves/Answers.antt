@@ -6,8 +6,8 @@ use Rattle.cli_call.specs.Alone.{AnswersByOpened, PerformsAlone}
 use Rattle.cli_call.specs.Command.{disks, Performs}
 use Rattle.cli_call.specs.cny-laws.declared.failure.Failure.TheVariants as failure
 use Rattle.cli_call.specs.cny-laws.declared.opened.Opened.{Opened}
-use Rattle.system_core.specs.Job.{no_answers, sources_of}
-use Rattle.system_core.specs.Lists.{to_erased}
+use Rattle.cli_call.specs.system-core.Job.{no_answers, sources_of}
+use Rattle.cli_call.specs.system-core.Lists.{to_erased}
 use Rattle.root_commands.specs.Erase as spec
 use Rattle.root_commands.proofs.JobOpened.{erased_out, failed_opened, told_opened}
 use Rattle.root_commands.proofs.SpecifiedEnds.{Ran, failed_alone, failed_performs, memory_alone, memory_performs, reads_refused, told_alone, told_performs}

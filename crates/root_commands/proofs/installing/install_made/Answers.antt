@@ -7,8 +7,8 @@ use Rattle.cli_call.specs.Alone.{AnswersByOpened, PerformsAlone}
 use Rattle.cli_call.specs.Command.{disks, Performs}
 use Rattle.cli_call.specs.cny-laws.declared.failure.Failure.TheVariants as failure
 use Rattle.cli_call.specs.cny-laws.declared.opened.Opened.{Opened}
-use Rattle.system_core.specs.Job.{no_answers, sources_of}
-use Rattle.system_core.specs.Lists.{to_updated}
+use Rattle.cli_call.specs.system-core.Job.{no_answers, sources_of}
+use Rattle.cli_call.specs.system-core.Lists.{to_updated}
 use Rattle.root_commands.specs.Install as spec
 use Rattle.root_commands.proofs.InstallEnds.{named_contents, own_causes}
 use Rattle.root_commands.proofs.JobOpened.{failed_opened, told_opened, updated_out}

@@ -5,8 +5,8 @@ use Rattle.cli_call.proofs.Again.{ready_changed, ready_far, ready_rests}
 use Rattle.cli_call.specs.Command.{disks, AreReady, Performs}
 use Rattle.cli_call.specs.cny-laws.declared.failure.Failure.TheVariants as failure
 use Rattle.cli_call.specs.cny-laws.declared.opened.Opened.{Opened}
-use Rattle.system_core.specs.Job.{sources_of}
-use Rattle.system_core.specs.Lists.{to_updated}
+use Rattle.cli_call.specs.system-core.Job.{sources_of}
+use Rattle.cli_call.specs.system-core.Lists.{to_updated}
 use Rattle.root_commands.specs.Update as spec
 use Rattle.root_commands.proofs.FarJobs.{RanFar, RepositoryLaws, failed_performs, memory_performs, performed_at, ready_at, told_performs}
 use Rattle.root_commands.proofs.SpecifiedEnds.{reads_refused}

@@ -1,0 +1,4 @@
+pub mod Reading
+pub mod SpecLists
+pub mod WordEnds
+pub mod CallWords
