@@ -2,23 +2,24 @@
 use Rattle.std.proofs.Common.{◌≡◌, ◌⊎◌, inl, inr, ℕ, ◌≤◌, zero, suc, Bool, true, false, List, [], ◌∷◌, ◌++◌, map, length, Result, Ok, Err, refl, sym, ap, ◌∙◌, subst, arith}
 use Rattle.conary_cli.specs.cli-call.cny-base.declared.refusal.Refusal.{Refusal}
 use Rattle.conary_cli.specs.cli-call.cny-laws.declared.failure.Failure.{Failure}
+use Rattle.conary_cli.specs.cli-call.cny-laws.declared.failure.Failure.TheVariants as failure
 use Rattle.conary_cli.specs.cli-call.cny-laws.Reading.{given}
 use Rattle.conary_cli.specs.cli-call.cny-laws.Report.{End}
 use Rattle.conary_cli.specs.cli-call.cny-laws.State.{Effect, IsNext, Meaning, State, Takes, Then, tree_of}
 use Rattle.conary_cli.specs.cli-call.cny-laws.WholeCall.{Outcome, OwnOutcome}
 use Rattle.conary_cli.specs.cli-call.system-core.FixedDirs.{fixed_dirs}
 use Rattle.cny_batch.specs.declared.line.Line.{Line}
-use Rattle.conary_cli.specs.declared.call_words.Call.{Call}
-use Rattle.conary_cli.specs.declared.call_words.Call.TheVariants as call
-use Rattle.conary_cli.specs.declared.words.Command.{Command}
-use Rattle.conary_cli.specs.Calls.{AreCall}
+use Rattle.conary_cli.specs.cli-words.declared.call_words.Call.{Call}
+use Rattle.conary_cli.specs.cli-words.declared.call_words.Call.TheVariants as call
+use Rattle.conary_cli.specs.cli-words.declared.words.Command.{Command}
+use Rattle.conary_cli.specs.cli-words.Calls.{AreCall}
 use Rattle.conary_cli.specs.Commands.{meaning}
 use Rattle.conary_cli.specs.Lines.{CallLine}
 use Rattle.conary_cli.specs.Lives.{last_state}
-use Rattle.conary_cli.specs.Several.{AreBatchLines, AreDemoLines}
-use Rattle.conary_cli.specs.Words.{AreWords}
+use Rattle.conary_cli.specs.Several.{before_lines, AreBatchLines, AreDemoLines}
+use Rattle.conary_cli.specs.cli-words.Words.{AreWords}
 use Rattle.outcome_laws.specs.OneOutcome.{IsState}
-use Rattle.outcome_laws.specs.Machine.{answer_of, first_then, none_run, Answer, Answers, AnswersBy, AnswersCallBy, AnswersLine, AnswersLines, AnswersMade, GoesOn, HasLines, MakesLines, StopsAt, Tested}
+use Rattle.outcome_laws.specs.Machine.{answer_of, first_then, none_run, Answer, Answers, AnswersBy, AnswersCall, AnswersCallBy, AnswersLine, AnswersLines, AnswersMade, GoesOn, HasLines, MakesLines, StopsAt, Tested}
 use Rattle.outcome_laws.specs.Histories.{called, crashed, altered, done_of, lines_done, AfterCall, AfterLines, Answered, Event, Folds, LinesOf}
 
 -- ---- a line that isn't done
@@ -74,7 +75,7 @@ made_counted : (l : Line) (s : State) (all : Answers) (c : Call) → AreCall l.w
 made_counted l s all c are (Ok lines) has h = of_lines l s (last_state s all.states) lines (record { calls = c; are = are; has = has }) (lines_done all) (lines_counted lines s all h)
 made_counted l s all c are (Err r) has h = none_counted l s all _ h
 
-call_counted : (l : Line) (s : State) (all : Answers) (expected : Result Call Failure) → AreCall l.words expected → AnswersCallBy expected l s all → AfterCall l (lines_done all) s (last_state s all.states)
+pub call_counted : (l : Line) (s : State) (all : Answers) (expected : Result Call Failure) → AreCall l.words expected → AnswersCallBy expected l s all → AfterCall l (lines_done all) s (last_state s all.states)
 call_counted l s all (Ok c) are h = made_counted l s all c are h.0 h.1 h.2
 call_counted l s all (Err e) are h = none_counted l s all e h
 
@@ -98,6 +99,42 @@ folds_then (crashed l ∷ events) [] more others s t u h g = absurd h
 folds_then (crashed l ∷ events) (cut ∷ cuts) more others s t u h g = (h.0, h.1, folds_then events cuts more others h.0 t u h.2 g)
 folds_then (altered e ∷ events) cuts more others s t u h g = (h.0, h.1, folds_then events cuts more others h.0 t u h.2 g)
 
+-- ---- a call that is refused
+
+-- the machine's answer to it
+pub record RefusedAnswer (l : Line) (s : State) (r : Refusal) : Type 0 where
+  pub all : Answers
+  pub answers : AnswersCall l s all
+  pub ended : all.end ≡ Err (failure.Refused r)
+  pub silent : all.out ≡ []
+  pub still : last_state s all.states ≡ s
+
+err_same : {A B : Type 0} (r other : Refusal) → ◌≡◌ {A = Result A Refusal} (Err r) (Err other) → ◌≡◌ {A = Result B Refusal} (Err r) (Err other)
+err_same {B = B} r other same = let refusals : r ≡ other = cc same in ap (λ (x : Refusal). let made : Result B Refusal = Err x in made) refusals
+
+-- before a line of it
+pub none_refused : (l : Line) (s : State) (c : Call) (r : Refusal) → AreCall l.words (Ok c) → HasLines c l s (Err r) → RefusedAnswer l s r
+none_refused l s c r are has = record {
+  all = none_run (Err (failure.Refused r));
+  answers = record { expected = Ok c; are = are; is = (Err r, has, refl) };
+  ended = refl;
+  silent = refl;
+  still = refl;
+}
+
+-- where tests refuse an outcome, they refuse lines
+then_tested : {A : Type 0} (test : Result A Refusal) (Is : A → Result Effect Refusal → Type 0) (Makes : A → Result (List CallLine) Refusal → Type 0) (r : Refusal) → ((x : A) → Is x (Err r) → Makes x (Err r)) → Then test Is (Err r) → Tested test Makes (Err r)
+then_tested (Ok x) Is Makes r more h = more x h
+then_tested (Err other) Is Makes r more h = err_same r other h
+
+pub batch_refused : (l : Line) (s : State) (r : Refusal) → Outcome (before_lines true AreBatchLines) s l.input (Err r) → HasLines call.Batch l s (Err r)
+batch_refused l s r h = then_tested (fixed_dirs (tree_of s.root)) (λ _. OwnOutcome (before_lines true AreBatchLines) s l.input) (λ _. MakesLines call.Batch l) r
+    (λ _ own. then_tested (given true l.input) ((before_lines true AreBatchLines).IsOutcome s) AreBatchLines r
+    (λ bytes is. let same : r ≡ is.0 = cc is.1 in subst (λ (x : Refusal). AreBatchLines bytes (Err x)) (sym same) is.2) own) h
+
+pub demo_refused : (packages : ℕ) (l : Line) (s : State) (r : Refusal) → Outcome (before_lines false (AreDemoLines packages)) s l.input (Err r) → HasLines (call.Demo packages) l s (Err r)
+demo_refused packages l s r h = then_tested (fixed_dirs (tree_of s.root)) (λ _. OwnOutcome (before_lines false (AreDemoLines packages)) s l.input) (λ _. MakesLines (call.Demo packages) l) r (λ _ is. absurd is.2) h
+
 -- ---- a command by itself
 
 -- a command that takes no input has the same outcomes on all
@@ -105,7 +142,7 @@ given_same : (takes : Bool) (input other : List ℕ) → (takes ≡ true → inp
 given_same true input other same = ap (given true) (same refl)
 given_same false input other same = refl
 
-outcome_same : (m : Meaning) (s : State) (input other : List ℕ) (o : Result Effect Refusal) → (m.takes_input ≡ true → input ≡ other) → Outcome m s input o → Outcome m s other o
+pub outcome_same : (m : Meaning) (s : State) (input other : List ℕ) (o : Result Effect Refusal) → (m.takes_input ≡ true → input ≡ other) → Outcome m s input o → Outcome m s other o
 outcome_same m s input other o same h = subst (λ (g : Result (List ℕ) Refusal). Then (fixed_dirs (tree_of s.root)) (λ _. Then g (m.IsOutcome s)) o) (given_same m.takes_input input other same) h
 
 -- what is done, is done where the fixed directories stand
@@ -130,6 +167,47 @@ module _ (l : Line) (c : Command) (are : AreCall l.words (Ok (call.Single c))) (
   -- its effect is that of the call, of which one line counts
   single_done : (e : Effect) → Outcome (meaning c) s l.input (Ok e) → IsState (answer_of s (Ok e)).next → AfterCall l 1 s (answer_of s (Ok e)).next
   single_done e is state = (shown ∷ [], single_lines (dirs_of (fixed_dirs (tree_of s.root)) (OwnOutcome (meaning c) s l.input) e is), (answer_of s (Ok e), done_line e is state, refl, refl))
+
+  pub single_taken : (input : List ℕ) (next : State) → ((meaning c).takes_input ≡ true → input ≡ l.input) → IsState next → {Bytes : List ℕ → Type 0} → Takes (Outcome (meaning c) s input) s next Bytes → AfterCall l 1 s next
+  single_taken input next same state takes = subst (λ (x : State). AfterCall l 1 s x) (sym takes.leads)
+      (single_done takes.effect (outcome_same (meaning c) s input l.input (Ok takes.effect) same takes.is) (subst IsState takes.leads state))
+
+  -- the machine's answer, where it is done
+  pub single_answers : (e : Effect) → Outcome (meaning c) s l.input (Ok e) → IsState (answer_of s (Ok e)).next → AnswersCall l s (first_then (answer_of s (Ok e)) (none_run (Ok tt)))
+  unfolding single_lines
+  single_answers e is state = record {
+    expected = Ok (call.Single c);
+    are = are;
+    is = (
+      Ok (shown ∷ []),
+      (single_lines (dirs_of (fixed_dirs (tree_of s.root)) (OwnOutcome (meaning c) s l.input) e is)).has,
+      (answer_of s (Ok e), done_line e is state, inr (none_run (Ok tt), refl, refl, refl)),
+    );
+  }
+
+  -- and where it is refused
+  pub single_refused : (r : Refusal) → Outcome (meaning c) s l.input (Err r) → IsState s → RefusedAnswer l s r
+  unfolding single_lines
+  single_refused r is state = by (fixed_dirs (tree_of s.root)) refl is
+    where
+      by : (dirs : Result (Unit {0}) Refusal) → fixed_dirs (tree_of s.root) ≡ dirs → Then dirs (λ _. OwnOutcome (meaning c) s l.input) (Err r) → RefusedAnswer l s r
+      by (Ok x) found h = record {
+        all = first_then (answer_of s (Err r)) (none_run (Err (failure.Refused r)));
+        answers = record {
+          expected = Ok (call.Single c);
+          are = are;
+          is = (
+            Ok (shown ∷ []),
+            (single_lines found).has,
+            (answer_of s (Err r), record { expected = Ok c; are = words; is = (Err r, is, refl); keeps = state }, inl (failure.Refused r, refl, refl)),
+          );
+        };
+        ended = refl;
+        silent = refl;
+        still = refl;
+      }
+      by (Err other) found h = none_refused l s (call.Single c) r are
+          (subst (λ (test : Result (Unit {0}) Refusal). Tested test (λ _. MakesLines (call.Single c) l) (Err r)) (sym found) (err_same r other h))
 
   -- so is the state before it, or the one after it
   pub single_counted : (input : List ℕ) (next : State) → ((meaning c).takes_input ≡ true → input ≡ l.input) → IsState next → IsNext (Outcome (meaning c) s input) s next → (count : ℕ) × (count ≤ 1) × AfterCall l count s next

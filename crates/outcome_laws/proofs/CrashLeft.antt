@@ -34,7 +34,7 @@ use Rattle.outcome_laws.specs.Images.{CrashesTo, HasCrashed, RecoversIn}
 
 module _ {D : Type 0} {disk : DiskModel D} (laws : IsDisk disk) where
   -- what a crash now leaves of a disk, where it left only such trees since
-  left_now : (Is : Tree → Type 0) (old new : D) → LeavesOnly disk old new Is → (image : Tree) → IsImageOf disk new image → Is image
+  pub left_now : (Is : Tree → Type 0) (old new : D) → LeavesOnly disk old new Is → (image : Tree) → IsImageOf disk new image → Is image
   left_now Is old new leaves image is = leaves.each image (laws.counts_now new (disk.now old) image leaves.later is)
 
 -- of a synced disk a crash leaves just what it reads
@@ -58,7 +58,7 @@ module _ (Is : State → Type 0) (s t : State) (first : Is s) (second : Is t) (i
   as_second : Recovers root_store image t.root → Recovers repository_store far t.repository → RecoversIn Is image far
   as_second a b = record { state = t; among = second; root = a; repo = b }
 
-  one_of_two : OneDisk s t → OneOf root_store s.root t.root image → OneOf repository_store s.repository t.repository far → RecoversIn Is image far
+  pub one_of_two : OneDisk s t → OneOf root_store s.root t.root image → OneOf repository_store s.repository t.repository far → RecoversIn Is image far
   one_of_two apart (inl a) (inl b) = as_first a b
   one_of_two apart (inr a) (inr b) = as_second a b
   one_of_two (inl same) (inl a) (inr b) = as_second (subst (λ (x : RootState). Recovers root_store image x) (sym same) a) b
@@ -101,7 +101,7 @@ module _ {T P : Type 0} {root_disk : DiskModel T} {repo_disk : DiskModel P} (roo
         at : (x : RootState) → Recovers root_store (root_disk.reads root) x → Recovers root_store image x
         at x rec = rest_image root_laws root' x (opened_root_rests root root' stops.db x (stops.opens_root.opened root_told) rec) image is
 
-    not_opened : (root' : T) (repo' : P) (e : Failure) → StopsOpening root_disk repo_disk root root' repo repo' e → CrashesTo root_disk repo_disk Is root' repo'
+    pub not_opened : (root' : T) (repo' : P) (e : Failure) → StopsOpening root_disk repo_disk root root' repo repo' e → CrashesTo root_disk repo_disk Is root' repo'
     not_opened root' repo' e (inl stops) = stopped_root root' repo' e stops
     not_opened root' repo' e (inr stops) = stopped_repository root' repo' e stops
 

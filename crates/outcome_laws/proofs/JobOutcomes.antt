@@ -10,8 +10,8 @@ use Rattle.conary_cli.specs.cli-call.conflict-plan.declared.planned.Planned.{Pla
 use Rattle.conary_cli.specs.cli-call.conflict-plan.Plan as planning
 use Rattle.conary_cli.specs.cli-call.job-targets.declared.targets.Targets.{Targets}
 use Rattle.conary_cli.specs.cli-call.job-targets.Outcome.{AreTargets, IsFirstRefusal}
-use Rattle.local_db.specs.declared.db.Db.{Db}
-use Rattle.local_db.specs.SystemState.{IsSystemState}
+use Rattle.conary_cli.specs.cli-call.local-db.declared.db.Db.{Db}
+use Rattle.conary_cli.specs.cli-call.local-db.SystemState.{IsSystemState}
 use Rattle.conary_cli.specs.cli-call.system-core.Job.{db_of, unmet, unplanned, untargeted, untested, last, IsJobRefusal, IsTested, IsTestRefusal, PassesTests, Sources}
 use Rattle.conary_cli.specs.cli-call.system-core.Last.{database_size, too_large, too_many, IsRefusedLast}
 use Rattle.conary_cli.specs.cli-call.system-core.Lists.{ListStep}

@@ -5,7 +5,7 @@ use Rattle.std.specs.Cmp.{IsTotalOrder}
 use Rattle.std.specs.Cmp.Lexicographic.{nat_list_cmp_total}
 use Rattle.conary_cli.specs.cli-call.trove-stream.declared.parts.TroveParts.{TroveParts}
 use Rattle.conary_cli.specs.cli-call.trove-stream.Installed.{by_name}
-use Rattle.local_db.specs.SystemState.{StackItem}
+use Rattle.conary_cli.specs.cli-call.local-db.SystemState.{StackItem}
 use Rattle.conary_cli.specs.cli-call.Answer.{answer}
 use Rattle.conary_cli.specs.cli-call.cny-laws.State.{RootState}
 use Rattle.cny_report.specs.declared.note.Note.{Note}
@@ -14,7 +14,7 @@ use Rattle.update_job.specs.Changes.{name_of, by_change, AreChanges}
 use Rattle.update_job.specs.Lists.{IsErased, IsUpdated}
 use Rattle.conary_cli.specs.root-commands.Jobs.{IsNoteOf, AreNotesOf, ListsJobs, list_jobs}
 use Rattle.change_rel.proofs.Members.{same_members}
-use Rattle.local_db.proofs.Sorted.{trove_total}
+use Rattle.conary_cli.proofs.cli-call.local-db.Sorted.{trove_total}
 use Rattle.outcome_laws.specs.OneOutcome.{AtMostOne, HasOneOutcome}
 use Rattle.outcome_laws.proofs.Tests.{done, with_shared}
 

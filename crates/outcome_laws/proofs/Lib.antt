@@ -2,6 +2,7 @@ pub mod Tests
 pub mod Splits
 pub mod Listings
 pub mod Commits
+pub mod Mirrors
 pub mod Jobs
 pub mod Configurations
 pub mod Meanings
@@ -31,6 +32,9 @@ pub mod OnDisks
 pub mod OpenedStates
 pub mod MadeEvents
 pub mod CanDecide
-pub mod InTheWay
+pub mod ExactCuts
+pub mod BlockedLogs
+pub mod ToldFolds
 pub mod PlayedStates
+pub mod FixedCuts
 pub mod CalledLine

@@ -12,13 +12,13 @@ use Rattle.conary_cli.specs.cli-call.change-set.declared.change.Part.TheVariants
 use Rattle.conary_cli.specs.cli-call.tree-disk.Tree.{Tree}
 use Rattle.conary_cli.specs.cli-call.cny-laws.State.{RootState, tree_of}
 use Rattle.manifest_troves.specs.Contents.{contents_of}
-use Rattle.root_edits.specs.Local.{all_contents, first_refusal, AreLocalParts, IsLocal, IsLocalPart, IsLocalRefusal, IsLocalTrove, IsNotInstalled, IsRefusedTrove}
-use Rattle.root_edits.specs.Moved.{AreLocalRefs}
-use Rattle.root_edits.specs.Reached.{AreReached}
-use Rattle.root_edits.specs.Standing.{Sight, sights}
+use Rattle.conary_cli.specs.root-commands.root-edits.Local.{all_contents, first_refusal, AreLocalParts, IsLocal, IsLocalPart, IsLocalRefusal, IsLocalTrove, IsNotInstalled, IsRefusedTrove}
+use Rattle.conary_cli.specs.root-commands.root-edits.Moved.{AreLocalRefs}
+use Rattle.conary_cli.specs.root-commands.root-edits.Reached.{AreReached}
+use Rattle.conary_cli.specs.root-commands.root-edits.Standing.{Sight, sights}
 use Rattle.conary_cli.specs.root-commands.LocalChanges.{change_locally, ChangesLocally, IsSetAnswered, IsSetOf}
 use Rattle.change_rel.proofs.Members.{same_members}
-use Rattle.local_db.proofs.Sorted.{trove_total}
+use Rattle.conary_cli.proofs.cli-call.local-db.Sorted.{trove_total}
 use Rattle.outcome_laws.specs.OneOutcome.{AtMostOne, HasOneOutcome}
 use Rattle.outcome_laws.proofs.Tests.{done, refused, with_shared}
 use Rattle.outcome_laws.proofs.Sets.{effect_once}

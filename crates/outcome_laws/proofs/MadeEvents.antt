@@ -15,7 +15,7 @@ use Rattle.outcome_laws.specs.Play.{answered, edit_of, met, stopped, statuses_of
 
 pub both_statuses : (ends more : List EventEnd) → statuses_of (ends ++ more) ≡ statuses_of ends ++ statuses_of more
 both_statuses [] more = refl
-both_statuses (answered status ∷ ends) more = ap (λ (l : List ℕ). status ∷ l) (both_statuses ends more)
+both_statuses (answered tree status out ∷ ends) more = ap (λ (l : List ℕ). status ∷ l) (both_statuses ends more)
 both_statuses (stopped ∷ ends) more = ap (λ (l : List ℕ). 255 ∷ l) (both_statuses ends more)
 both_statuses (met tree ∷ ends) more = both_statuses ends more
 

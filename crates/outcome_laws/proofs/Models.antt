@@ -15,13 +15,13 @@ use Rattle.trove_spec.specs.declared.config.Config.{Config}
 use Rattle.trove_spec.specs.declared.spec.Spec.{Spec}
 use Rattle.trove_spec.proofs.OneConfig.{OneLabel}
 use Rattle.repo_shadow.proofs.OneMove.{OneExpansion}
-use Rattle.sys_model.specs.declared.directive.ModelLine.{ModelLine}
-use Rattle.sys_model.specs.declared.directive.ModelLine.TheVariants.{Install, Update, Erase}
-use Rattle.sys_model.specs.declared.model.Model.{Model}
-use Rattle.sys_model.specs.Model.{erase_word, install_word, is_read, lines_of, lines_read, text_behind, update_word, IsBadModelOrMemory, IsDirective, IsFirstBad, IsModelOf, IsSpecAs}
-use Rattle.sys_model.specs.RootModel.{model_file, HasModel, HasModelIn}
-use Rattle.sys_model.specs.Wanted.{given, Makes, MakesAll, PutsIn, Replaces, TakesOut, Wants}
-use Rattle.sys_model.proofs.Directives.{erases, installs, one_install, one_update, updates, IsOnlySpec}
+use Rattle.conary_cli.specs.root-commands.sys-model.declared.directive.ModelLine.{ModelLine}
+use Rattle.conary_cli.specs.root-commands.sys-model.declared.directive.ModelLine.TheVariants.{Install, Update, Erase}
+use Rattle.conary_cli.specs.root-commands.sys-model.declared.model.Model.{Model}
+use Rattle.conary_cli.specs.root-commands.sys-model.Model.{erase_word, install_word, is_read, lines_of, lines_read, text_behind, update_word, IsBadModelOrMemory, IsDirective, IsFirstBad, IsModelOf, IsSpecAs}
+use Rattle.conary_cli.specs.root-commands.sys-model.RootModel.{model_file, HasModel, HasModelIn}
+use Rattle.conary_cli.specs.root-commands.sys-model.Wanted.{given, Makes, MakesAll, PutsIn, Replaces, TakesOut, Wants}
+use Rattle.conary_cli.proofs.root-commands.sys-model.Directives.{erases, installs, one_install, one_update, updates, IsOnlySpec}
 use Rattle.outcome_laws.specs.OneOutcome.{AtMostOne}
 use Rattle.outcome_laws.proofs.Jobs.{erased_once, updated_once}
 use Rattle.outcome_laws.proofs.Meanings.{expands_once}

@@ -18,15 +18,15 @@ use Rattle.conary_cli.specs.cli-call.cny-laws.WholeCall.{CallEnds, CallFrom, Has
 use Rattle.conary_cli.specs.cli-call.system-core.FixedDirs.{fixed_dirs}
 use Rattle.conary_cli.proofs.cli-call.cny-laws.EditedSystems.{the_system}
 use Rattle.cny_batch.specs.declared.line.Line.{Line}
-use Rattle.conary_cli.specs.declared.call_words.Call.{Call}
-use Rattle.conary_cli.specs.declared.call_words.Call.TheVariants as call
-use Rattle.conary_cli.specs.declared.words.Command.{Command}
-use Rattle.conary_cli.specs.Calls.{as_call, batch_of, demo_by, demo_of, package_count, AreCall, AreOfKind, IsSingle}
+use Rattle.conary_cli.specs.cli-words.declared.call_words.Call.{Call}
+use Rattle.conary_cli.specs.cli-words.declared.call_words.Call.TheVariants as call
+use Rattle.conary_cli.specs.cli-words.declared.words.Command.{Command}
+use Rattle.conary_cli.specs.cli-words.Calls.{as_call, batch_of, demo_by, demo_of, package_count, AreCall, AreOfKind, IsSingle}
 use Rattle.conary_cli.specs.Commands.{meaning, scope_of}
 use Rattle.conary_cli.specs.Lines.{CallLine}
 use Rattle.conary_cli.specs.Program.{line_state, told_source, IsProgramCall}
 use Rattle.conary_cli.specs.Several.{before_lines, of_input, AreBatchLines, AreDemoLines, LinesCause, LinesWereRun, Making}
-use Rattle.conary_cli.specs.Words.{AreWords}
+use Rattle.conary_cli.specs.cli-words.Words.{AreWords}
 use Rattle.outcome_laws.specs.OneOutcome.{AtMostOne, IsState}
 use Rattle.outcome_laws.specs.Histories.{called, crashed, altered, AfterCall, AfterEdit, AfterLines, Event, Folds, LinesOf}
 use Rattle.outcome_laws.specs.Images.{CrashesAfter, CrashesTo, RecoversAfter, RecoversIn}
@@ -97,7 +97,7 @@ all_leads : (l : Line) (s t : State) (status : ℕ) (lines : List CallLine) → 
 all_leads l s t status lines is has h = (length lines, record { all = λ _. (lines, has, refl); none = λ three. absurd (cc (sym is ∙ three)); refused = λ low c single. absurd (low_zero status is low) }, several_counted l s t lines (length lines) has h)
 
 -- what both disks recover to keeps the rules
-in_state : (Is : State → Type 0) (image far : Tree) (c : RecoversIn Is image far) → IsState c.state
+pub in_state : (Is : State → Type 0) (image far : Tree) (c : RecoversIn Is image far) → IsState c.state
 in_state Is image far c = record { root = the_system c.root.tree c.state.root c.root.stored; repository = c.repo.stored.repository }
 
 -- words that call one command are that command
@@ -124,7 +124,7 @@ one_command (Err e) one c is other = absurd (cc (sym is ∙ other))
 single_is : (words : List (List ℕ)) (c : Command) → IsSingle words (Ok (call.Single c)) → AreWords words (Ok c)
 single_is words c h = subst (AreWords words) (one_command h.command (Ok (call.Single c)) c refl h.is) h.are
 
-single_words : (words : List (List ℕ)) (c : Command) → AreCall words (Ok (call.Single c)) → AreWords words (Ok c)
+pub single_words : (words : List (List ℕ)) (c : Command) → AreCall words (Ok (call.Single c)) → AreWords words (Ok c)
 single_words [] c are = single_is [] c are
 single_words (word ∷ words) c are = by (cases_if (λ k. AreOfKind k (word ∷ words) (Ok (call.Single c))) (bytes_eq word (codes "batch")) (bytes_eq word (codes "demo")) are)
   where
@@ -140,15 +140,15 @@ never_then (Ok x) Is e never h = never x h
 never_then (Err r) Is e never h = absurd (cc h)
 
 module _ (takes : Bool) (AreLines : Making) (s : State) (input : List ℕ) where
-  never_effect : (e : Effect) → Outcome (before_lines takes AreLines) s input (Ok e) → ⊥
+  pub never_effect : (e : Effect) → Outcome (before_lines takes AreLines) s input (Ok e) → ⊥
   never_effect e h = never_then (fixed_dirs (tree_of s.root)) (λ _. Then (given takes input) ((before_lines takes AreLines).IsOutcome s)) e
       (λ _. never_then (given takes input) ((before_lines takes AreLines).IsOutcome s) e (λ bytes g. absurd (cc g.1))) h
 
-  next_still : (next : State) → IsNext (Outcome (before_lines takes AreLines) s input) s next → next ≡ s
+  pub next_still : (next : State) → IsNext (Outcome (before_lines takes AreLines) s input) s next → next ≡ s
   next_still next (inl same) = same
   next_still next (inr takes_) = absurd (never_effect takes_.effect takes_.is)
 
-  ends_still : (next : State) (out out' : SinkState) (end : End) → CallEnds (Outcome (before_lines takes AreLines) s input) s next out out' end → (end ≡ Ok tt → ⊥) × (next ≡ s)
+  pub ends_still : (next : State) (out out' : SinkState) (end : End) → CallEnds (Outcome (before_lines takes AreLines) s input) s next out out' end → (end ≡ Ok tt → ⊥) × (next ≡ s)
   ends_still next out out' (Ok x) h = absurd (never_effect h.effect h.is)
   ends_still next out out' (Err (failure.Refused r)) h = (λ is. absurd (cc is), h.1)
   ends_still next out out' (Err failure.InputFault) h = (λ is. absurd (cc is), h)

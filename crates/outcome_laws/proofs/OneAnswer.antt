@@ -16,12 +16,15 @@ use Rattle.cny_batch.specs.FirstFault.{IsFirstFault}
 use Rattle.cny_version.specs.Label.{LabelParts}
 use Rattle.repo_shadow.specs.declared.way.Way.{Way}
 use Rattle.trove_spec.specs.declared.given.GivenSpec.{GivenSpec}
+use Rattle.conary_cli.specs.repo-commands.AskMirror.{ask_mirror}
 use Rattle.conary_cli.specs.repo-commands.Commit.{commit}
 use Rattle.conary_cli.specs.repo-commands.Cook.{cook}
 use Rattle.conary_cli.specs.repo-commands.Listing.{list_committed}
 use Rattle.conary_cli.specs.repo-commands.Moving.{move}
 use Rattle.conary_cli.specs.repo-commands.Sending.{changeset}
+use Rattle.conary_cli.specs.repo-commands.Serving.{serve}
 use Rattle.conary_cli.specs.repo-commands.ShowChangeSet.{show_change_set}
+use Rattle.conary_cli.specs.repo-commands.TakeMirror.{take_mirror}
 use Rattle.conary_cli.specs.root-commands.Erase.{erase}
 use Rattle.conary_cli.specs.root-commands.Install.{install}
 use Rattle.conary_cli.specs.root-commands.Jobs.{list_jobs}
@@ -32,16 +35,16 @@ use Rattle.conary_cli.specs.root-commands.Syncing.{sync}
 use Rattle.conary_cli.specs.root-commands.Update.{update_input}
 use Rattle.conary_cli.specs.root-commands.UpdateSpecs.{update_specs}
 use Rattle.conary_cli.specs.root-commands.Verifying.{verify_fully, verify_installed}
-use Rattle.conary_cli.specs.declared.call_words.Call.{Call}
-use Rattle.conary_cli.specs.declared.call_words.Call.TheVariants as call
-use Rattle.conary_cli.specs.declared.words.Command.{Command}
-use Rattle.conary_cli.specs.declared.words.Command.TheVariants as command
-use Rattle.conary_cli.specs.Calls.{AreCall}
+use Rattle.conary_cli.specs.cli-words.declared.call_words.Call.{Call}
+use Rattle.conary_cli.specs.cli-words.declared.call_words.Call.TheVariants as call
+use Rattle.conary_cli.specs.cli-words.declared.words.Command.{Command}
+use Rattle.conary_cli.specs.cli-words.declared.words.Command.TheVariants as command
+use Rattle.conary_cli.specs.cli-words.Calls.{AreCall}
 use Rattle.conary_cli.specs.Commands.{erasing, meaning}
 use Rattle.conary_cli.specs.Lines.{all_shown, shown_as, unshown, unshown_outcome, CallLine}
 use Rattle.conary_cli.specs.Lives.{last_state}
 use Rattle.conary_cli.specs.Several.{AreBatchLines, AreDemoLines}
-use Rattle.conary_cli.specs.Words.{AreWords}
+use Rattle.conary_cli.specs.cli-words.Words.{AreWords}
 use Rattle.outcome_laws.specs.OneOutcome.{AtMostOne, HasOneOutcome, IsState}
 use Rattle.outcome_laws.specs.Machine.{answer_of, first_then, Answer, Answers, AnswersBy, AnswersCall, AnswersCallBy, AnswersLine, AnswersLines, AnswersMade, GoesOn, HasLines, MakesLines, StopsAt, Tested}
 use Rattle.outcome_laws.specs.Histories.{called, crashed, altered, AfterCall, AfterEdit, AfterLines, Answered, Event, Folds, LinesOf}
@@ -54,6 +57,9 @@ pub record CommandLaws : Type 0 where
   pub show : HasOneOutcome show_change_set
   pub cook : (next : Bool) → HasOneOutcome (cook next)
   pub commit : HasOneOutcome commit
+  pub serve : HasOneOutcome serve
+  pub ask_mirror : HasOneOutcome ask_mirror
+  pub take_mirror : HasOneOutcome take_mirror
   pub list_committed : (name : Option (List ℕ)) → HasOneOutcome (list_committed name)
   pub update : (options : Options) (resolve : Bool) (givens : List GivenSpec) → HasOneOutcome (update_specs options resolve givens)
   pub update_input : (options : Options) → HasOneOutcome (update_input options)
@@ -73,6 +79,9 @@ each_once laws (command.Install options) = laws.install options
 each_once laws command.ShowChangeSet = laws.show
 each_once laws (command.Cook next) = laws.cook next
 each_once laws command.Commit = laws.commit
+each_once laws command.Serve = laws.serve
+each_once laws command.AskMirror = laws.ask_mirror
+each_once laws command.TakeMirror = laws.take_mirror
 each_once laws (command.ListCommitted name) = laws.list_committed name
 each_once laws (command.Update specs options resolve) = laws.update options resolve specs
 each_once laws (command.UpdateByInput options) = laws.update_input options

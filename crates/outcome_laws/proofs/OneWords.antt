@@ -8,10 +8,10 @@ use Rattle.repo_shadow.specs.declared.way.Way.TheVariants as way
 use Rattle.trove_spec.specs.declared.given.GivenSpec.{GivenSpec}
 use Rattle.trove_spec.proofs.OneConfig.{OneLabel}
 use Rattle.conary_cli.specs.cli-call.cny-laws.declared.failure.Failure.{Failure}
-use Rattle.conary_cli.specs.declared.words.Command.{Command}
-use Rattle.conary_cli.specs.declared.words.Command.TheVariants as command
-use Rattle.conary_cli.specs.Calls.{as_call, batch_of, demo_of, AreCall, AreOfKind, IsSingle}
-use Rattle.conary_cli.specs.Words.{is_input, update_options_at, AreGivenSpecs, AreLabelAndSpec, AreOfForm, AreSpecs, AreWords, IsGiven, IsMove, IsOrUsage, IsSend, IsUpdate}
+use Rattle.conary_cli.specs.cli-words.declared.words.Command.{Command}
+use Rattle.conary_cli.specs.cli-words.declared.words.Command.TheVariants as command
+use Rattle.conary_cli.specs.cli-words.Calls.{as_call, batch_of, demo_of, AreCall, AreOfKind, IsSingle}
+use Rattle.conary_cli.specs.cli-words.Words.{is_input, update_options_at, AreGivenSpecs, AreLabelAndSpec, AreOfForm, AreSpecs, AreWords, IsGiven, IsMove, IsOrUsage, IsSend, IsUpdate}
 use Rattle.outcome_laws.specs.OneOutcome.{AtMostOne}
 use Rattle.outcome_laws.proofs.OneSpec.{spec_once}
 

@@ -6,21 +6,21 @@ use Rattle.std.specs.FinMap.{get}
 use Rattle.std.proofs.lemmas.Bool.{cases_Bool}
 use Rattle.std.proofs.lemmas.List.Elements.{All-cons, All-nil}
 use Rattle.std.specs.List.Sorted.{IsStrictlySortedBy}
-use Rattle.local_db.specs.cny-base.Reserved.{is_reserved, private_directory}
-use Rattle.local_db.specs.cny-base.Path.{parent, root}
-use Rattle.local_db.specs.tree-disk.Tree.{AgreesOutside, Name, Tree, WellFormed, is_dir, may_stand}
-use Rattle.local_db.specs.tree-disk.Clear.{is_within, without_tree}
-use Rattle.local_db.specs.tree-disk.Laws.{same_means}
-use Rattle.local_db.proofs.tree-disk.ClearLaws.{bare_without, below_within, get-without_tree, or_cases, within_itself}
-use Rattle.local_db.specs.SystemState.{AreNumbered, IsFree, IsStackItem, IsSystemState, StackItem, SystemState, newest, oldest}
-use Rattle.local_db.specs.declared.db.Db.{Db}
-use Rattle.local_db.specs.Formats.{AreEnds}
-use Rattle.local_db.specs.Stores.{IsDatabase}
-use Rattle.local_db.specs.declared.format.Format.TheVariants.{Two}
-use Rattle.local_db.proofs.Other.{no_troves}
-use Rattle.local_db.proofs.Places.{below_reserved}
-use Rattle.local_db.proofs.Putting.{parent_outer, reserved_at_or_below}
-use Rattle.local_db.proofs.Together.{nothing_fits}
+use Rattle.conary_cli.specs.cli-call.local-db.cny-base.Reserved.{is_reserved, private_directory}
+use Rattle.conary_cli.specs.cli-call.local-db.cny-base.Path.{parent, root}
+use Rattle.conary_cli.specs.cli-call.local-db.tree-disk.Tree.{AgreesOutside, Name, Tree, WellFormed, is_dir, may_stand}
+use Rattle.conary_cli.specs.cli-call.local-db.tree-disk.Clear.{is_within, without_tree}
+use Rattle.conary_cli.specs.cli-call.local-db.tree-disk.Laws.{same_means}
+use Rattle.conary_cli.proofs.cli-call.local-db.tree-disk.ClearLaws.{bare_without, below_within, get-without_tree, or_cases, within_itself}
+use Rattle.conary_cli.specs.cli-call.local-db.SystemState.{AreNumbered, IsFree, IsStackItem, IsSystemState, StackItem, SystemState, newest, oldest}
+use Rattle.conary_cli.specs.cli-call.local-db.declared.db.Db.{Db}
+use Rattle.conary_cli.specs.cli-call.local-db.Formats.{AreEnds}
+use Rattle.conary_cli.specs.cli-call.local-db.Stores.{IsDatabase}
+use Rattle.conary_cli.specs.cli-call.local-db.declared.format.Format.TheVariants.{Two}
+use Rattle.conary_cli.proofs.cli-call.local-db.Other.{no_troves}
+use Rattle.conary_cli.proofs.cli-call.local-db.Places.{below_reserved}
+use Rattle.conary_cli.proofs.cli-call.local-db.Putting.{parent_outer, reserved_at_or_below}
+use Rattle.conary_cli.proofs.cli-call.local-db.Together.{nothing_fits}
 
 -- ---- the tree without the private directory
 

@@ -20,7 +20,6 @@ use Rattle.conary_cli.specs.cli-call.cny-laws.WholeCall.{after_edits}
 use Rattle.conary_cli.proofs.cli-call.cny-laws.EditedSystems.{recovers_at_rest, the_system}
 use Rattle.conary_cli.proofs.cli-call.cny-laws.SeveralEdits.{kept_beside}
 use Rattle.cny_batch.specs.declared.line.Line.{Line}
-use Rattle.conary_cli.specs.Calls.{AreCall}
 use Rattle.tree_memory.specs.declared.memory.MemoryTree.{MemoryTree}
 use Rattle.tree_memory.specs.Memory.{memory_disk, memory_laws, state, IsEdited}
 use Rattle.tree_memory.specs.State.{State as DiskState}
@@ -28,14 +27,14 @@ use Rattle.outcome_laws.specs.declared.playing.Event.{Event}
 use Rattle.outcome_laws.specs.declared.playing.Event.TheVariants as event
 use Rattle.outcome_laws.specs.Histories.{AfterCall}
 use Rattle.outcome_laws.specs.Images.{CrashesTo, HasCrashed, RecoversIn}
-use Rattle.outcome_laws.specs.OneOutcome.{AtMostOne}
-use Rattle.outcome_laws.specs.OnDisks.{WasCalled}
-use Rattle.outcome_laws.specs.Play.{answered, edit_of, met, stopped, AreLeft, EventEnd, HasPlayed, IsLeft, Makes, MakesAll, MakesBy, MakesSome, MeetsEdit, RanStopped, StaysStopped}
-use Rattle.outcome_laws.specs.Played.{Alters, IsBehind, IsBeside, IsInTheWay, IsKept, LeadsFrom, LeadThrough, Stands}
+use Rattle.outcome_laws.specs.Play.{answered, edit_of, met, stopped, AreLeft, EventEnd, HasPlayed, IsLeft, Makes, MakesAll, MakesBy, MakesSome, MeetsEdit, RanStopped, StaysStopped, WasMade}
+use Rattle.outcome_laws.specs.Cuts.{CountsTo}
+use Rattle.outcome_laws.specs.Played.{Alters, BlocksLog, EditMeetsClear, EditsMeetClear, FoldsTold, IsBehind, IsBeside, IsKept, LeadsFrom, LeadThrough, Stands}
 use Rattle.outcome_laws.proofs.CanDecide.{can_or_not, Decides}
 use Rattle.outcome_laws.proofs.CrashLeft.{crash_left, left_synced, weaker_left}
-use Rattle.outcome_laws.proofs.InTheWay.{called_in_way, still_holds, still_set}
-use Rattle.outcome_laws.proofs.OnDisks.{called_left, Led}
+use Rattle.outcome_laws.proofs.ToldFolds.{lead_told}
+use Rattle.outcome_laws.proofs.BlockedLogs.{called_blocked, still_holds, still_set}
+use Rattle.outcome_laws.proofs.ExactCuts.{something, LedTo}
 
 -- ---- disks in memory
 
@@ -50,7 +49,7 @@ same_left : (Is : State → Type 0) (root root' repo repo' : MemoryTree) → sta
 same_left Is root root' repo repo' a b crashes =
     subst (λ (x : DiskState). LeftOf Is x (state repo')) (sym a) (subst (λ (y : DiskState). LeftOf Is (state root) y) (sym b) crashes)
 
-is_synced : (d : MemoryTree) (t : Tree) → state d ≡ record { reads = t; synced = t; unsynced = λ p. false } → IsSynced memory_disk d
+pub is_synced : (d : MemoryTree) (t : Tree) → state d ≡ record { reads = t; synced = t; unsynced = λ p. false } → IsSynced memory_disk d
 is_synced d t settled p = ap (λ (x : DiskState). x.unsynced p) settled
 
 crashed_by : (pick : ℕ) (old new : MemoryTree) → IsLeft pick old new → HasCrashed memory_disk old new
@@ -64,8 +63,8 @@ edited_by e old new is = record { reads = ap (λ (x : DiskState). x.reads) is.st
 weaker_behind : {Is More : State → Type 0} → ((t : State) → Is t → More t) → (tree : Tree) (edits : List Edit) (puts : List Put) (far : Tree) → IsBehind Is tree edits puts far → IsBehind More tree edits puts far
 weaker_behind more tree edits puts far b = record { base = b.base; among = more (after_edits b.base (edits_beside puts edits)) b.among; root = b.root; repo = b.repo }
 
-weaker_way : {Is More : State → Type 0} → ((t : State) → Is t → More t) → (root repo : MemoryTree) → IsInTheWay Is root repo → IsInTheWay More root repo
-weaker_way more root repo w = record {
+weaker_block : {Is More : State → Type 0} → ((t : State) → Is t → More t) → (root repo : MemoryTree) → BlocksLog Is root repo → BlocksLog More root repo
+weaker_block more root repo w = record {
   tree = w.tree;
   edits = w.edits;
   puts = w.puts;
@@ -78,14 +77,14 @@ weaker_way more root repo w = record {
   behind = λ far is. weaker_behind more w.tree w.edits w.puts far (w.behind far is);
 }
 
-weaker_stands : {Is More : State → Type 0} → ((t : State) → Is t → More t) → (root repo : MemoryTree) → Stands Is root repo → Stands More root repo
+pub weaker_stands : {Is More : State → Type 0} → ((t : State) → Is t → More t) → (root repo : MemoryTree) → Stands Is root repo → Stands More root repo
 weaker_stands more root repo (inl crashes) = inl (weaker_left memory_disk memory_disk more root repo crashes)
-weaker_stands more root repo (inr way) = inr (weaker_way more root repo way)
+weaker_stands more root repo (inr way) = inr (weaker_block more root repo way)
 
 -- ---- disks of the same states
 
-same_way : (Is : State → Type 0) (root root' repo repo' : MemoryTree) → state root' ≡ state root → state repo' ≡ state repo → IsInTheWay Is root repo → IsInTheWay Is root' repo'
-same_way Is root root' repo repo' a b w = record {
+same_block : (Is : State → Type 0) (root root' repo repo' : MemoryTree) → state root' ≡ state root → state repo' ≡ state repo → BlocksLog Is root repo → BlocksLog Is root' repo'
+same_block Is root root' repo repo' a b w = record {
   tree = w.tree;
   edits = w.edits;
   puts = w.puts;
@@ -100,7 +99,7 @@ same_way Is root root' repo repo' a b w = record {
 
 same_stands : (Is : State → Type 0) (root root' repo repo' : MemoryTree) → state root' ≡ state root → state repo' ≡ state repo → Stands Is root repo → Stands Is root' repo'
 same_stands Is root root' repo repo' a b (inl crashes) = inl (same_left Is root root' repo repo' a b crashes)
-same_stands Is root root' repo repo' a b (inr way) = inr (same_way Is root root' repo repo' a b way)
+same_stands Is root root' repo repo' a b (inr way) = inr (same_block Is root root' repo repo' a b way)
 
 -- ---- several edits
 
@@ -128,7 +127,7 @@ after_more s puts edits more =
 
 -- ---- edits behind which the log stands
 
--- as of edits that are in the way, whether they are or not
+-- as of edits that block the log, whether they do or not
 pub record IsEditedLog (Is : State → Type 0) (root repo : MemoryTree) : Type 0 where
   pub tree : Tree
   pub edits : List Edit
@@ -227,8 +226,8 @@ module _ (e : Edit) (root root' repo : MemoryTree) (edit : IsEdit (state root).r
         by (at_rest clear same) = absurd (cc (sym set ∙ clear))
         by (by_log also puts holds stand can same) = stands_by_log (Altered Is) root' repo (with_log puts holds)
 
-  -- behind edits that are in the way
-  edit_behind : (Is : State → Type 0) → IsInTheWay Is root repo → Stands (Altered Is) root' repo
+  -- behind edits that block the log
+  edit_behind : (Is : State → Type 0) → BlocksLog Is root repo → Stands (Altered Is) root' repo
   edit_behind Is w = stands_by_log (Altered Is) root' repo (record {
     tree = w.tree;
     edits = w.edits ++ e ∷ [];
@@ -257,21 +256,36 @@ module _ (e : Edit) (root root' repo : MemoryTree) (edit : IsEdit (state root).r
 
 -- ---- the events
 
-module _ (repo_laws : IsStore repository_store) (calls : (words : List (List ℕ)) → AtMostOne (AreCall words)) where
+module _ (repo_laws : IsStore repository_store) where
   -- one of some states, and from it by a call of which so many lines count
   abbrev Counted : (State → Type 0) → Line → State → Type 0
   Counted Is l u = (t : State) × Is t × ((count : ℕ) × AfterCall l count t u)
 
-  call_stands : (Is : State → Type 0) (l : Line) (status : ℕ) (root root' repo repo' : MemoryTree) → Stands Is root repo → WasCalled memory_disk memory_disk l status root root' repo repo' → Stands (Led Is status l) root' repo'
-  call_stands Is l status root root' repo repo' (inl crashes) h = inl (called_left memory_laws memory_laws repo_laws told told calls Is l status root root' repo repo' crashes h)
-  call_stands Is l status root root' repo repo' (inr way) h = inr (called_in_way Is l status root root' repo repo' way h)
+  call_left : (Is : State → Type 0) (l : Line) (status : ℕ) (out : List ℕ) (root root' repo repo' : MemoryTree) → CrashesTo memory_disk memory_disk Is root repo → WasMade l status out root root' repo repo'
+      → CrashesTo memory_disk memory_disk (LedTo Is (state root).reads status out l) root' repo'
+  call_left Is l status out root root' repo repo' crashes h = something memory_laws memory_laws repo_laws told told Is l root root' repo repo' crashes h.left out h.line status h.call
+
+  call_stands : (Is : State → Type 0) (l : Line) (status : ℕ) (out : List ℕ) (root root' repo repo' : MemoryTree) → Stands Is root repo → WasMade l status out root root' repo repo' → Stands (LedTo Is (state root).reads status out l) root' repo'
+  call_stands Is l status out root root' repo repo' (inl crashes) h = inl (call_left Is l status out root root' repo repo' crashes h)
+  call_stands Is l status out root root' repo repo' (inr way) h = inr (called_blocked Is l status out root root' repo repo' way h)
+
+  to_counted : (Is : State → Type 0) (l : Line) (tree : Tree) (status : ℕ) (out : List ℕ) (u : State) → LedTo Is tree status out l u → Counted Is l u
+  to_counted Is l tree status out u led = (led.0, led.1, (led.2.0, led.2.2))
+
+  stopped_left : (Is : State → Type 0) (l : Line) (repo_calls root_calls : ℕ) (root root' repo repo' : MemoryTree) → CrashesTo memory_disk memory_disk Is root repo → RanStopped l repo_calls root_calls root root' repo repo'
+      → CrashesTo memory_disk memory_disk (Counted Is l) root' repo'
+  stopped_left Is l repo_calls root_calls root root' repo repo' crashes h = weaker_left memory_disk memory_disk (to_counted Is l (state h.begun).reads h.status h.out) root' repo'
+      (call_left Is l h.status h.out h.begun root' h.far repo' (same_left Is root h.begun repo h.far h.root_stop.state h.repo_stop.state crashes) h.was_made)
 
   stopped_stands : (Is : State → Type 0) (l : Line) (repo_calls root_calls : ℕ) (root root' repo repo' : MemoryTree) → Stands Is root repo → RanStopped l repo_calls root_calls root root' repo repo' → Stands (Counted Is l) root' repo'
-  stopped_stands Is l repo_calls root_calls root root' repo repo' stands h = weaker_stands (λ u led. (led.0, led.1, (led.2.0, led.2.2))) root' repo'
-      (call_stands Is l h.status h.begun root' h.far repo' (same_stands Is root h.begun repo h.far h.root_stop.state h.repo_stop.state stands) h.was_called)
+  stopped_stands Is l repo_calls root_calls root root' repo repo' stands h = weaker_stands (to_counted Is l (state h.begun).reads h.status h.out) root' repo'
+      (call_stands Is l h.status h.out h.begun root' h.far repo' (same_stands Is root h.begun repo h.far h.root_stop.state h.repo_stop.state stands) h.was_made)
+
+  both_crash : (Is : State → Type 0) (pick : ℕ) (root root' repo repo' : MemoryTree) → AreLeft pick root root' repo repo' → CrashesTo memory_disk memory_disk Is root repo → CrashesTo memory_disk memory_disk Is root' repo'
+  both_crash Is pick root root' repo repo' left crashes = crash_left memory_disk memory_disk Is root root' repo repo' (crashed_by pick root root' left.on_root) (crashed_by pick repo repo' left.on_repo) crashes
 
   crash_stands : (Is : State → Type 0) (pick : ℕ) (root root' repo repo' : MemoryTree) → AreLeft pick root root' repo repo' → Stands Is root repo → Stands Is root' repo'
-  crash_stands Is pick root root' repo repo' left (inl crashes) = inl (crash_left memory_disk memory_disk Is root root' repo repo' (crashed_by pick root root' left.on_root) (crashed_by pick repo repo' left.on_repo) crashes)
+  crash_stands Is pick root root' repo repo' left (inl crashes) = inl (both_crash Is pick root root' repo repo' left crashes)
   crash_stands Is pick root root' repo repo' left (inr w) =
       let reads : (state root').reads ≡ (state root).reads = left_synced memory_disk root w.synced (state root').reads left.on_root.image in
       inr (record {
@@ -297,14 +311,15 @@ module _ (repo_laws : IsStore repository_store) (calls : (words : List (List ℕ
   meets_stands Is e root root' repo stands (inr over) = weaker_stands (λ t is. (t, is, inl (over.0, refl))) root' repo (same_stands Is root root' repo repo over.1.state refl stands)
 
   event_stands : (Is : State → Type 0) (e : Event) (end : EventEnd) (root root' repo repo' : MemoryTree) → Stands Is root repo → Makes e end root root' repo repo' → Stands (After Is e end) root' repo'
-  event_stands Is (event.Call l) (answered status) root root' repo repo' stands h = call_stands Is l status root root' repo repo' stands h
+  event_stands Is (event.Call l) (answered tree status out) root root' repo repo' stands h =
+      subst (λ (x : Tree). Stands (After Is (event.Call l) (answered x status out)) root' repo') (sym h.0) (call_stands Is l status out root root' repo repo' stands h.1)
   event_stands Is (event.Call l) stopped root root' repo repo' stands h = absurd h
   event_stands Is (event.Call l) (met tree) root root' repo repo' stands h = absurd h
-  event_stands Is (event.Stopped l repo_calls root_calls pick) (answered status) root root' repo repo' stands h = absurd h
+  event_stands Is (event.Stopped l repo_calls root_calls pick) (answered tree status out) root root' repo repo' stands h = absurd h
   event_stands Is (event.Stopped l repo_calls root_calls pick) stopped root root' repo repo' stands h =
       crash_stands (Counted Is l) pick h.0 root' h.1 repo' h.3 (stopped_stands Is l repo_calls root_calls root h.0 repo h.1 stands h.2)
   event_stands Is (event.Stopped l repo_calls root_calls pick) (met tree) root root' repo repo' stands h = absurd h
-  event_stands Is (event.Edit path _) (answered status) root root' repo repo' stands h = absurd h
+  event_stands Is (event.Edit path _) (answered tree status out) root root' repo repo' stands h = absurd h
   event_stands Is (event.Edit path _) stopped root root' repo repo' stands h = absurd h
   event_stands Is (event.Edit path node) (met tree) root root' repo repo' stands h =
       subst (λ (d : MemoryTree). Stands (After Is (event.Edit path node) (met tree)) root' d) (sym h.2)
@@ -322,7 +337,7 @@ module _ (repo_laws : IsStore repository_store) (calls : (words : List (List ℕ
   one_then : (Is : State → Type 0) (e : Event) (end : EventEnd) (events : List Event) (ends : List EventEnd) (u : State) → Through (After Is e end) events ends u → Through Is (e ∷ events) (end ∷ ends) u
   one_then Is e end events ends u led = (led.1.0, led.1.1, (led.0, led.1.2, led.2))
 
-  all_stand : (events : List Event) (ends : List EventEnd) (Is : State → Type 0) (root root' repo repo' : MemoryTree) → Stands Is root repo → MakesAll events ends root root' repo repo' → Stands (Through Is events ends) root' repo'
+  pub all_stand : (events : List Event) (ends : List EventEnd) (Is : State → Type 0) (root root' repo repo' : MemoryTree) → Stands Is root repo → MakesAll events ends root root' repo repo' → Stands (Through Is events ends) root' repo'
   all_stand [] [] Is root root' repo repo' stands h = weaker_stands (λ t is. (t, is, refl)) root' repo'
       (subst (λ (d : MemoryTree). Stands Is d repo') (sym h.0) (subst (λ (d : MemoryTree). Stands Is root d) (sym h.1) stands))
   all_stand [] (end ∷ ends) Is root root' repo repo' stands h = absurd h
@@ -347,12 +362,72 @@ module _ (repo_laws : IsStore repository_store) (calls : (words : List (List ℕ
   some_stand (e ∷ events) (end ∷ ends) Is root root' repo repo' stands (inr h) = weaker_stands (one_then Is e end events ends) root' repo'
       (some_stand events ends (After Is e end) h.0 root' h.1 repo' (event_stands Is e end root h.0 repo h.1 stands h.2) h.3)
 
-  by_stand : (r : Result (Unit {0}) OutOfMemory) (events : List Event) (ends : List EventEnd) (Is : State → Type 0) (root root' repo repo' : MemoryTree) → Stands Is root repo → MakesBy r events ends root root' repo repo'
+  pub by_stand : (r : Result (Unit {0}) OutOfMemory) (events : List Event) (ends : List EventEnd) (Is : State → Type 0) (root root' repo repo' : MemoryTree) → Stands Is root repo → MakesBy r events ends root root' repo repo'
       → Stands (Through Is events ends) root' repo'
   by_stand (Ok x) events ends Is root root' repo repo' stands h = all_stand events ends Is root root' repo repo' stands h
   by_stand (Err x) events ends Is root root' repo repo' stands h = some_stand events ends Is root root' repo repo' stands h
 
-  -- the whole
+  -- ---- where each edit comes while the commit flag isn't set
+
+  event_left : (Is : State → Type 0) (e : Event) (end : EventEnd) (root root' repo repo' : MemoryTree) → CrashesTo memory_disk memory_disk Is root repo → EditMeetsClear e end → Makes e end root root' repo repo'
+      → CrashesTo memory_disk memory_disk (After Is e end) root' repo'
+  event_left Is (event.Call l) (answered tree status out) root root' repo repo' crashes clear h =
+      subst (λ (x : Tree). CrashesTo memory_disk memory_disk (After Is (event.Call l) (answered x status out)) root' repo') (sym h.0) (call_left Is l status out root root' repo repo' crashes h.1)
+  event_left Is (event.Call l) stopped root root' repo repo' crashes clear h = absurd h
+  event_left Is (event.Call l) (met tree) root root' repo repo' crashes clear h = absurd h
+  event_left Is (event.Stopped l repo_calls root_calls pick) (answered tree status out) root root' repo repo' crashes clear h = absurd h
+  event_left Is (event.Stopped l repo_calls root_calls pick) stopped root root' repo repo' crashes clear h =
+      both_crash (Counted Is l) pick h.0 root' h.1 repo' h.3 (stopped_left Is l repo_calls root_calls root h.0 repo h.1 crashes h.2)
+  event_left Is (event.Stopped l repo_calls root_calls pick) (met tree) root root' repo repo' crashes clear h = absurd h
+  event_left Is (event.Edit path _) (answered tree status out) root root' repo repo' crashes clear h = absurd h
+  event_left Is (event.Edit path _) stopped root root' repo repo' crashes clear h = absurd h
+  event_left Is (event.Edit path node) (met tree) root root' repo repo' crashes clear h = ⊎_elim
+      (λ made.
+      subst (λ (d : MemoryTree). CrashesTo memory_disk memory_disk (After Is (event.Edit path node) (met tree)) root' d) (sym h.2)
+      (subst (λ (x : Tree). CrashesTo memory_disk memory_disk (After Is (event.Edit path node) (met x)) root' repo) (sym h.0)
+      (edit_kept (edit_of path node) root root' repo made.0 made.1 Is crashes (subst (λ (x : Tree). is_committed private_directory x ≡ false) h.0 clear.1))))
+      (λ over. absurd (over.0 (subst (λ (x : Tree). IsEdit x (edit_of path node)) h.0 clear.0)))
+      h.1
+
+  all_left : (events : List Event) (ends : List EventEnd) (Is : State → Type 0) (root root' repo repo' : MemoryTree) → CrashesTo memory_disk memory_disk Is root repo → EditsMeetClear events ends → MakesAll events ends root root' repo repo'
+      → CrashesTo memory_disk memory_disk (Through Is events ends) root' repo'
+  all_left [] [] Is root root' repo repo' crashes clear h = weaker_left memory_disk memory_disk (λ t is. (t, is, refl)) root' repo'
+      (subst (λ (d : MemoryTree). CrashesTo memory_disk memory_disk Is d repo') (sym h.0) (subst (λ (d : MemoryTree). CrashesTo memory_disk memory_disk Is root d) (sym h.1) crashes))
+  all_left [] (end ∷ ends) Is root root' repo repo' crashes clear h = absurd h
+  all_left (e ∷ events) [] Is root root' repo repo' crashes clear h = absurd h
+  all_left (e ∷ events) (end ∷ ends) Is root root' repo repo' crashes clear h = weaker_left memory_disk memory_disk (one_then Is e end events ends) root' repo'
+      (all_left events ends (After Is e end) h.0 root' h.1 repo' (event_left Is e end root h.0 repo h.1 crashes clear.0 h.2) clear.1 h.3)
+
+  stays_left : (Is : State → Type 0) (e : Event) (root root' repo repo' : MemoryTree) → CrashesTo memory_disk memory_disk Is root repo → StaysStopped e root root' repo repo' → CrashesTo memory_disk memory_disk (After Is e stopped) root' repo'
+  stays_left Is (event.Call l) root root' repo repo' crashes h = absurd h
+  stays_left Is (event.Stopped l repo_calls root_calls pick) root root' repo repo' crashes h = stopped_left Is l repo_calls root_calls root root' repo repo' crashes h
+  stays_left Is (event.Edit path _) root root' repo repo' crashes h = absurd h
+
+  some_left : (events : List Event) (ends : List EventEnd) (Is : State → Type 0) (root root' repo repo' : MemoryTree) → CrashesTo memory_disk memory_disk Is root repo → EditsMeetClear events ends → MakesSome events ends root root' repo repo'
+      → CrashesTo memory_disk memory_disk (Through Is events ends) root' repo'
+  some_left [] ends Is root root' repo repo' crashes clear h = absurd h
+  some_left (e ∷ events) [] Is root root' repo repo' crashes clear h = weaker_left memory_disk memory_disk (λ t is. (t, is, refl)) root' repo'
+      (subst (λ (d : MemoryTree). CrashesTo memory_disk memory_disk Is root' d) (sym h.1) (same_left Is root root' repo repo h.0.state refl crashes))
+  some_left (e ∷ events) (end ∷ ends) Is root root' repo repo' crashes clear (inl last) =
+      subst (λ (x : EventEnd). CrashesTo memory_disk memory_disk (Through Is (e ∷ events) (x ∷ ends)) root' repo') (sym last.0)
+      (subst (λ (l : List EventEnd). CrashesTo memory_disk memory_disk (Through Is (e ∷ events) (stopped ∷ l)) root' repo') (sym last.1)
+      (weaker_left memory_disk memory_disk (λ u led. (led.0, led.1, (u, led.2, none_through events u u refl))) root' repo' (stays_left Is e root root' repo repo' crashes last.2)))
+  some_left (e ∷ events) (end ∷ ends) Is root root' repo repo' crashes clear (inr h) = weaker_left memory_disk memory_disk (one_then Is e end events ends) root' repo'
+      (some_left events ends (After Is e end) h.0 root' h.1 repo' (event_left Is e end root h.0 repo h.1 crashes clear.0 h.2) clear.1 h.3)
+
+  by_left : (r : Result (Unit {0}) OutOfMemory) (events : List Event) (ends : List EventEnd) (Is : State → Type 0) (root root' repo repo' : MemoryTree) → CrashesTo memory_disk memory_disk Is root repo → EditsMeetClear events ends
+      → MakesBy r events ends root root' repo repo' → CrashesTo memory_disk memory_disk (Through Is events ends) root' repo'
+  by_left (Ok x) events ends Is root root' repo repo' crashes clear h = all_left events ends Is root root' repo repo' crashes clear h
+  by_left (Err x) events ends Is root root' repo repo' crashes clear h = some_left events ends Is root root' repo repo' crashes clear h
+
+  -- ---- the whole
+
+  pub played_folds : (events : List Event) (r : Result (Unit {0}) OutOfMemory) (statuses statuses' : List ℕ) (root root' repo repo' : MemoryTree) → (made : HasPlayed events r statuses statuses' root root' repo repo')
+      → (s : State) → CrashesTo memory_disk memory_disk (λ t. t ≡ s) root repo → EditsMeetClear events made.ends → CrashesTo memory_disk memory_disk (λ t. (cuts : List ℕ) × FoldsTold events made.ends cuts s t) root' repo'
+  played_folds events r statuses statuses' root root' repo repo' made s crashes clear = weaker_left memory_disk memory_disk
+      (λ u led. lead_told events made.ends s u clear (subst (λ (t : State). LeadThrough events made.ends t u) led.1 led.2)) root' repo'
+      (by_left r events made.ends (λ t. t ≡ s) root root' repo repo' crashes clear made.makes)
+
   pub played_left : (events : List Event) (r : Result (Unit {0}) OutOfMemory) (statuses statuses' : List ℕ) (root root' repo repo' : MemoryTree) → (made : HasPlayed events r statuses statuses' root root' repo repo')
       → (s : State) → CrashesTo memory_disk memory_disk (λ t. t ≡ s) root repo → Stands (LeadThrough events made.ends s) root' repo'
   played_left events r statuses statuses' root root' repo repo' made s crashes = weaker_stands (λ u led. subst (λ (t : State). LeadThrough events made.ends t u) led.1 led.2) root' repo'

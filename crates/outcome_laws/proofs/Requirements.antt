@@ -8,7 +8,7 @@ use Rattle.conary_cli.specs.cli-call.cny-base.declared.refusal.Fault.TheVariants
 use Rattle.conary_cli.specs.cli-call.cny-base.declared.refusal.Refusal.{Refusal}
 use Rattle.conary_cli.specs.cli-call.cny-base.declared.refusal.Refusal.TheVariants.{Unmet}
 use Rattle.conary_cli.specs.cli-call.trove-stream.declared.parts.TroveParts.{TroveParts}
-use Rattle.dep_closure.specs.Closed.{HasAllMet, IsClosed, IsFirstOf, IsFirstUnmet, IsMet, IsUnmetOrMemory}
+use Rattle.conary_cli.specs.root-commands.dep-closure.Closed.{HasAllMet, IsClosed, IsFirstOf, IsFirstUnmet, IsMet, IsUnmetOrMemory}
 use Rattle.change_rel.proofs.cny-base.Lists.{contains_at}
 use Rattle.outcome_laws.proofs.Listings.{take_get}
 

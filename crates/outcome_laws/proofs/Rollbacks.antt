@@ -16,13 +16,13 @@ use Rattle.conary_cli.specs.cli-call.tree-disk.Tree.{Name, Tree, is_dir}
 use Rattle.conary_cli.proofs.cli-call.tree-disk.Children.{stands_or_not}
 use Rattle.conary_cli.specs.cli-call.tree-scan.Marks.{fingerprint}
 use Rattle.conary_cli.specs.cli-call.journal-log.Targets.{with_targets}
-use Rattle.local_db.specs.SystemState.{newest, AreNumbered, IsSystemState, StackItem, SystemState}
-use Rattle.local_db.specs.Steps.{after_rollback, after_rollbacks, backs, CanRollBack, CanRollBackAll, HasForeignEntry}
+use Rattle.conary_cli.specs.cli-call.local-db.SystemState.{newest, AreNumbered, IsSystemState, StackItem, SystemState}
+use Rattle.conary_cli.specs.cli-call.local-db.Steps.{after_rollback, after_rollbacks, backs, CanRollBack, CanRollBackAll, HasForeignEntry}
 use Rattle.conary_cli.specs.cli-call.system-core.Several.{count_to, jobs_below, jobs_to, CanTakeBackTo, HasJob, IsRefusalTo, OfTurn}
 use Rattle.conary_cli.specs.cli-call.system-core.Tests.{IsEditedSince, IsFirstEditedSince, IsFirstWithoutDirectory}
 use Rattle.conary_cli.specs.cli-call.cny-laws.State.{RootState}
 use Rattle.conary_cli.specs.root-commands.RollingBack.{meant_number, roll_back, TakesBackTo}
-use Rattle.local_db.proofs.Writes.{not_both}
+use Rattle.conary_cli.proofs.cli-call.local-db.Writes.{not_both}
 use Rattle.change_rel.proofs.cny-base.Lists.{nothing_in, contains_first}
 use Rattle.outcome_laws.specs.OneOutcome.{AtMostOne, HasOneOutcome}
 use Rattle.outcome_laws.proofs.Sets.{effect_once}

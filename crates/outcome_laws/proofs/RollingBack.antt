@@ -3,7 +3,7 @@ use Rattle.std.proofs.Common.{◌≡◌, ℕ, false, List, ◌∷◌, None, Resu
 use Rattle.std.specs.FinMap.{get}
 use Rattle.conary_cli.specs.cli-call.cny-base.declared.refusal.Refusal.{Refusal}
 use Rattle.conary_cli.specs.cli-call.tree-disk.Tree.{Tree}
-use Rattle.local_db.specs.SystemState.{newest, IsSystemState, StackItem, SystemState}
+use Rattle.conary_cli.specs.cli-call.local-db.SystemState.{newest, IsSystemState, StackItem, SystemState}
 use Rattle.conary_cli.specs.cli-call.cny-laws.Reading.{given}
 use Rattle.conary_cli.specs.cli-call.cny-laws.State.{Change, Effect, State, Then, after, tree_of}
 use Rattle.conary_cli.specs.cli-call.cny-laws.WholeCall.{Outcome}

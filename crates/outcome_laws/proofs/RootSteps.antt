@@ -27,15 +27,18 @@ use Rattle.trove_spec.specs.declared.given.GivenSpec.{GivenSpec}
 use Rattle.trove_spec.specs.AndThen.{AndThen}
 use Rattle.trove_spec.specs.Meant.{Expands, ExpandsFrom, Means}
 use Rattle.trove_spec.specs.RootConfig.{HasConfig}
-use Rattle.sys_model.specs.declared.model.Model.{Model}
-use Rattle.sys_model.specs.RootModel.{HasModel}
-use Rattle.sys_model.specs.Wanted.{Wants}
+use Rattle.conary_cli.specs.root-commands.sys-model.declared.model.Model.{Model}
+use Rattle.conary_cli.specs.root-commands.sys-model.RootModel.{HasModel}
+use Rattle.conary_cli.specs.root-commands.sys-model.Wanted.{Wants}
+use Rattle.conary_cli.specs.repo-commands.AskMirror.{ask_mirror, AnswersAsked}
 use Rattle.conary_cli.specs.repo-commands.Commit.{commit, Commits}
 use Rattle.conary_cli.specs.repo-commands.Cook.{cook, cooked_set, Cooks, CommitsSet}
 use Rattle.conary_cli.specs.repo-commands.Listing as committed
 use Rattle.conary_cli.specs.repo-commands.Moving.{move, set_of_troves, IsMoved}
 use Rattle.conary_cli.specs.repo-commands.Sending as sending
+use Rattle.conary_cli.specs.repo-commands.Serving.{serve, AnswersReplies}
 use Rattle.conary_cli.specs.repo-commands.ShowChangeSet.{show_change_set, IsDescribed}
+use Rattle.conary_cli.specs.repo-commands.TakeMirror.{take_mirror, OfReply}
 use Rattle.conary_cli.specs.root-commands.Erase.{erase}
 use Rattle.conary_cli.specs.root-commands.Install.{first_reserved, install, InstallsMade, UnlessReserved}
 use Rattle.conary_cli.specs.root-commands.JobOutcome.{IsChangeBy, JobOutcome}
@@ -85,6 +88,10 @@ module _ (s : State) (bytes : List ℕ) where
   set_step : (Is : ChangeSet → Result Effect Refusal → Type 0) → ((set : ChangeSet) (o : Result Effect Refusal) → Is set o → StepsRoot s o) → (o : Result Effect Refusal) → OfChangeSet bytes Is o → StepsRoot s o
   set_step Is each o (inl has) = each has.set o has.is
   set_step Is each o (inr none) = refused_step s o none.fault none.is
+
+  reply_step : (Is : ChangeSet → Result Effect Refusal → Type 0) → ((set : ChangeSet) (o : Result Effect Refusal) → Is set o → StepsRoot s o) → (o : Result Effect Refusal) → OfReply bytes Is o → StepsRoot s o
+  reply_step Is each o (inl has) = each has.set o has.is
+  reply_step Is each o (inr none) = refused_step s o (refusal.Malformed none.place) none.is
 
   manifest_step : (Is : Made → Result Effect Refusal → Type 0) → ((made : Made) (o : Result Effect Refusal) → Is made o → StepsRoot s o) → (o : Result Effect Refusal) → OfManifest bytes Is o → StepsRoot s o
   manifest_step Is each o (inl has) = each has.made o has.is
@@ -164,6 +171,9 @@ roll_back_steps number = shared_step (roll_back number) (λ s bytes o h. back_st
 pub commit_steps : EachSteps commit
 commit_steps = shared_step commit (λ s bytes o h. set_step s bytes (λ (set : ChangeSet). Commits set s.repository) (commit_step s) o h)
 
+pub take_steps : EachSteps take_mirror
+take_steps = shared_step take_mirror (λ s bytes o h. reply_step s bytes (λ (set : ChangeSet). Commits set s.repository) (commit_step s) o h)
+
 pub cook_steps : (next : Bool) → EachSteps (cook next)
 cook_steps next = shared_step (cook next) (λ s bytes o h. manifest_step s bytes (Cooks next s.repository)
     (λ made p g. commit_set_step s (cooked_set next (troves_of s.repository.commits) made) p g) o h)
@@ -218,6 +228,14 @@ module _ (s : State) where
   shown_step bytes (Ok e) h = left_step s e (ap (λ (x : Effect). (after s x.change).root) h.2)
   shown_step bytes (Err r) h = tt
 
+  replied_step : (bytes : List ℕ) (o : Result Effect Refusal) → AnswersReplies s.repository bytes o → StepsRoot s o
+  replied_step bytes (Ok e) h = left_step s e (ap (λ (x : Effect). (after s x.change).root) h.2)
+  replied_step bytes (Err r) h = tt
+
+  asked_step : (troves : List TroveParts) (o : Result Effect Refusal) → AnswersAsked troves o → StepsRoot s o
+  asked_step troves (Ok e) h = left_step s e (ap (λ (x : Effect). (after s x.change).root) h.2)
+  asked_step troves (Err r) h = tt
+
   told_step : (o : Result Effect Refusal) → ListsJobs s.root o → StepsRoot s o
   told_step (Ok e) h = left_step s e (ap (λ (x : Effect). (after s x.change).root) h.effect_is)
   told_step (Err r) h = tt
@@ -246,6 +264,12 @@ local_steps name = shared_step (local.change_locally name) (λ s bytes o h. loca
 
 pub show_steps : EachSteps show_change_set
 show_steps = shared_step show_change_set (λ s bytes o h. shown_step s bytes o h)
+
+pub serve_steps : EachSteps serve
+serve_steps = shared_step serve (λ s bytes o h. replied_step s bytes o h)
+
+pub ask_steps : EachSteps ask_mirror
+ask_steps = shared_step ask_mirror (λ s bytes o h. asked_step s (troves_of s.repository.commits) o h)
 
 pub send_steps : (from : Option GivenSpec) (to : GivenSpec) → EachSteps (sending.changeset from to)
 send_steps from to = shared_step (sending.changeset from to) (λ s bytes o h.

@@ -11,12 +11,12 @@ use Rattle.conary_cli.proofs.cli-call.tree-disk.Laws.{get_put_here, get_put_othe
 use Rattle.conary_cli.specs.cli-call.journal-log.declared.put.Put.{Put}
 use Rattle.conary_cli.specs.cli-call.journal-log.Targets.{is_target, node_of, with_targets}
 use Rattle.conary_cli.specs.cli-call.tree-scan.Marks.{fingerprint}
-use Rattle.local_db.specs.SystemState.{is_listed, AreNumbered, IsSystemState, StackItem}
-use Rattle.local_db.specs.Steps.{after_job, after_rollback, after_rollbacks, backs, old_of, paths_of, pushed, want_of}
-use Rattle.local_db.proofs.Sorted.{in_listed}
-use Rattle.local_db.proofs.Systems.{listed_backs, listed_paths, node_of_want}
-use Rattle.local_db.proofs.Writes.{not_both}
-use Rattle.local_db.proofs.tree-journal.WriteSets.{with_targets_outside}
+use Rattle.conary_cli.specs.cli-call.local-db.SystemState.{is_listed, AreNumbered, IsSystemState, StackItem}
+use Rattle.conary_cli.specs.cli-call.local-db.Steps.{after_job, after_rollback, after_rollbacks, backs, old_of, paths_of, pushed, want_of}
+use Rattle.conary_cli.proofs.cli-call.local-db.Sorted.{in_listed}
+use Rattle.conary_cli.proofs.cli-call.local-db.Systems.{listed_backs, listed_paths, node_of_want}
+use Rattle.conary_cli.proofs.cli-call.local-db.Writes.{not_both}
+use Rattle.conary_cli.proofs.cli-call.local-db.tree-journal.WriteSets.{with_targets_outside}
 use Rattle.conary_cli.specs.cli-call.cny-laws.Edits.{Edit, edited}
 use Rattle.conary_cli.specs.cli-call.cny-laws.State.{RootState}
 use Rattle.conary_cli.specs.cli-call.system-core.Restoring.{IsUnedited}

@@ -5,9 +5,9 @@ use Rattle.conary_cli.specs.cli-call.cny-base.declared.limits.TheConstants.{STAC
 use Rattle.conary_cli.specs.cli-call.trove-stream.declared.parts.TroveParts.{TroveParts}
 use Rattle.conary_cli.specs.cli-call.tree-disk.Tree.{Tree}
 use Rattle.conary_cli.specs.cli-call.journal-log.declared.put.Put.{Put}
-use Rattle.dep_closure.specs.Closed.{HasAllMet}
-use Rattle.local_db.specs.SystemState.{empty_system, StackItem}
-use Rattle.local_db.specs.Steps.{after_job, after_rollback, after_rollbacks, old_of}
+use Rattle.conary_cli.specs.root-commands.dep-closure.Closed.{HasAllMet}
+use Rattle.conary_cli.specs.cli-call.local-db.SystemState.{empty_system, StackItem}
+use Rattle.conary_cli.specs.cli-call.local-db.Steps.{after_job, after_rollback, after_rollbacks, old_of}
 use Rattle.conary_cli.specs.cli-call.cny-laws.State.{RootState}
 use Rattle.conary_cli.specs.cli-call.system-core.Several.{jobs_below, jobs_to}
 use Rattle.conary_cli.proofs.cli-call.system-core.Counting.{split_at}

@@ -5,10 +5,10 @@ use Rattle.conary_cli.specs.cli-call.cny-laws.declared.failure.Failure.{Failure}
 use Rattle.conary_cli.specs.cli-call.cny-laws.Edits.{edited, Edit}
 use Rattle.conary_cli.specs.cli-call.cny-laws.State.{Effect, RootState, State}
 use Rattle.cny_batch.specs.declared.line.Line.{Line}
-use Rattle.local_db.specs.SystemState.{is_listed, StackItem}
+use Rattle.conary_cli.specs.cli-call.local-db.SystemState.{is_listed, StackItem}
 use Rattle.conary_cli.specs.cli-call.system-core.Restoring.{IsUnedited}
-use Rattle.conary_cli.specs.declared.words.Command.{Command}
-use Rattle.conary_cli.specs.declared.words.Command.TheVariants as command
+use Rattle.conary_cli.specs.cli-words.declared.words.Command.{Command}
+use Rattle.conary_cli.specs.cli-words.declared.words.Command.TheVariants as command
 use Rattle.conary_cli.specs.Commands.{erasing, meaning}
 use Rattle.conary_cli.specs.Lines.{shown_as, unshown_outcome, CallLine}
 use Rattle.outcome_laws.specs.OneOutcome.{IsState}
@@ -16,7 +16,7 @@ use Rattle.outcome_laws.specs.RootSteps.{HasSoundLists, IsRootStep, StepsRoot}
 use Rattle.outcome_laws.specs.Machine.{answer_of, Answer, AnswersBy, AnswersLine}
 use Rattle.outcome_laws.specs.Histories.{called, crashed, altered, AfterCall, AfterEdit, AfterLines, Event, Folds, OfEdits}
 use Rattle.outcome_laws.proofs.OneAnswer.{unshown_own}
-use Rattle.outcome_laws.proofs.RootSteps.{commit_steps, cook_steps, erase_steps, install_steps, list_committed_steps, list_installed_steps, list_jobs_steps, local_steps, move_steps, roll_back_steps, send_steps, show_steps, sync_steps, update_input_steps, update_specs_steps, verify_fully_steps, verify_steps, EachSteps}
+use Rattle.outcome_laws.proofs.RootSteps.{ask_steps, commit_steps, cook_steps, erase_steps, install_steps, list_committed_steps, list_installed_steps, list_jobs_steps, local_steps, move_steps, roll_back_steps, send_steps, serve_steps, show_steps, take_steps, sync_steps, update_input_steps, update_specs_steps, verify_fully_steps, verify_steps, EachSteps}
 use Rattle.outcome_laws.proofs.SinceJobs.{edit_stands, follows_first, follows_last, follows_on, stands_first, stands_last, stands_on, Follows, Stands}
 use Rattle.outcome_laws.proofs.SoundLists.{sound_on}
 
@@ -27,6 +27,9 @@ each_steps (command.Install options) = install_steps options
 each_steps command.ShowChangeSet = show_steps
 each_steps (command.Cook next) = cook_steps next
 each_steps command.Commit = commit_steps
+each_steps command.Serve = serve_steps
+each_steps command.AskMirror = ask_steps
+each_steps command.TakeMirror = take_steps
 each_steps (command.ListCommitted name) = list_committed_steps name
 each_steps (command.Update specs options resolve) = update_specs_steps options resolve specs
 each_steps (command.UpdateByInput options) = update_input_steps options

@@ -17,10 +17,10 @@ use Rattle.repo_load.specs.State.{troves_of, Commit}
 use Rattle.trove_spec.specs.AndThen.{AndThen, Finds}
 use Rattle.trove_spec.specs.declared.config.Config.{Config}
 use Rattle.trove_spec.specs.RootConfig.{config_path, within_limit, HasConfig, HasConfigIn}
-use Rattle.sys_model.specs.declared.model.Model.{Model}
-use Rattle.sys_model.specs.RootModel.{model_path, HasModel, HasModelIn}
-use Rattle.sys_model.specs.Wanted.{Wants}
-use Rattle.sys_model.proofs.ModelSizes.{file_of}
+use Rattle.conary_cli.specs.root-commands.sys-model.declared.model.Model.{Model}
+use Rattle.conary_cli.specs.root-commands.sys-model.RootModel.{model_path, HasModel, HasModelIn}
+use Rattle.conary_cli.specs.root-commands.sys-model.Wanted.{Wants}
+use Rattle.conary_cli.proofs.root-commands.sys-model.ModelSizes.{file_of}
 use Rattle.conary_cli.specs.root-commands.Syncing.{sync, AdoptsList, AdoptsWanted, Syncs, SyncsWith}
 use Rattle.conary_cli.specs.root-commands.Update.{answers_of}
 use Rattle.conary_cli.proofs.root-commands.JobStays.{list_after, same_list_stays}

@@ -12,7 +12,7 @@ use Rattle.conary_cli.specs.cli-call.trove-stream.declared.parts.TroveParts.{Tro
 use Rattle.conary_cli.specs.cli-call.change-set.declared.change.Carried.{Carried}
 use Rattle.conary_cli.specs.cli-call.change-set.declared.change.ChangeSet.{ChangeSet}
 use Rattle.conary_cli.specs.cli-call.change-set.declared.change.Part.{Part}
-use Rattle.local_db.specs.SystemState.{IsSystemState}
+use Rattle.conary_cli.specs.cli-call.local-db.SystemState.{IsSystemState}
 use Rattle.conary_cli.specs.cli-call.system-core.Job.{no_answers, sources_of}
 use Rattle.conary_cli.specs.cli-call.system-core.Lists.{to_erased, to_list, to_updated}
 use Rattle.conary_cli.specs.cli-call.cny-laws.State.{RootState, State, tree_of}
@@ -20,9 +20,9 @@ use Rattle.cny_manifest.specs.declared.made.Made.{Made}
 use Rattle.repo_load.specs.State.{troves_of}
 use Rattle.trove_spec.specs.declared.config.Config.{Config}
 use Rattle.trove_spec.specs.RootConfig.{HasConfig}
-use Rattle.sys_model.specs.declared.model.Model.{Model}
-use Rattle.sys_model.specs.RootModel.{HasModel}
-use Rattle.sys_model.specs.Wanted.{Wants}
+use Rattle.conary_cli.specs.root-commands.sys-model.declared.model.Model.{Model}
+use Rattle.conary_cli.specs.root-commands.sys-model.RootModel.{HasModel}
+use Rattle.conary_cli.specs.root-commands.sys-model.Wanted.{Wants}
 use Rattle.trove_spec.proofs.OneConfig.{OneLabel}
 use Rattle.update_job.specs.Lists.{IsSecond, IsUpdated}
 use Rattle.update_job.specs.Made.{AreMade, IsFirstRefused}

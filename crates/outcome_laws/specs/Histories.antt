@@ -12,8 +12,8 @@ use Rattle.conary_cli.specs.cli-call.cny-laws.Report.{End}
 use Rattle.conary_cli.specs.cli-call.cny-laws.State.{State}
 use Rattle.conary_cli.specs.cli-call.cny-laws.WholeCall.{after_edits}
 use Rattle.cny_batch.specs.declared.line.Line.{Line}
-use Rattle.conary_cli.specs.declared.call_words.Call.{Call}
-use Rattle.conary_cli.specs.Calls.{AreCall}
+use Rattle.conary_cli.specs.cli-words.declared.call_words.Call.{Call}
+use Rattle.conary_cli.specs.cli-words.Calls.{AreCall}
 use Rattle.conary_cli.specs.Lines.{CallLine}
 use Rattle.conary_cli.specs.Lives.{last_state}
 use Rattle.outcome_laws.specs.Machine.{Answer, Answers, AnswersCall, AnswersLine, HasLines}

@@ -4,6 +4,7 @@ pub mod Restoring
 pub mod Machine
 pub mod Histories
 pub mod Images
+pub mod Cuts
 pub mod OnDisks
 pub mod Play
 pub mod Played

@@ -10,14 +10,14 @@ use Rattle.conary_cli.specs.cli-call.cny-laws.Report.{End}
 use Rattle.conary_cli.specs.cli-call.cny-laws.State.{Effect, State, after, tree_of}
 use Rattle.conary_cli.specs.cli-call.cny-laws.WholeCall.{Outcome}
 use Rattle.cny_batch.specs.declared.line.Line.{Line}
-use Rattle.conary_cli.specs.declared.call_words.Call.{Call}
-use Rattle.conary_cli.specs.declared.call_words.Call.TheVariants as call
-use Rattle.conary_cli.specs.declared.words.Command.{Command}
-use Rattle.conary_cli.specs.Calls.{AreCall}
+use Rattle.conary_cli.specs.cli-words.declared.call_words.Call.{Call}
+use Rattle.conary_cli.specs.cli-words.declared.call_words.Call.TheVariants as call
+use Rattle.conary_cli.specs.cli-words.declared.words.Command.{Command}
+use Rattle.conary_cli.specs.cli-words.Calls.{AreCall}
 use Rattle.conary_cli.specs.Commands.{meaning}
 use Rattle.conary_cli.specs.Lines.{shown_as, CallLine}
 use Rattle.conary_cli.specs.Several.{AreBatchLines, AreDemoLines}
-use Rattle.conary_cli.specs.Words.{AreWords}
+use Rattle.conary_cli.specs.cli-words.Words.{AreWords}
 use Rattle.outcome_laws.specs.OneOutcome.{IsState}
 
 -- ---- one line

@@ -7,9 +7,9 @@ use Rattle.conary_cli.specs.cli-call.cny-laws.Edits.{Edit, HasEdited, IsEdit}
 use Rattle.conary_cli.specs.cli-call.cny-laws.State.{State}
 use Rattle.conary_cli.specs.cli-call.cny-laws.Stores.{root_store}
 use Rattle.cny_batch.specs.declared.line.Line.{Line}
-use Rattle.conary_cli.specs.declared.call_words.Call.TheVariants as call
-use Rattle.conary_cli.specs.declared.words.Command.{Command}
-use Rattle.conary_cli.specs.Calls.{AreCall}
+use Rattle.conary_cli.specs.cli-words.declared.call_words.Call.TheVariants as call
+use Rattle.conary_cli.specs.cli-words.declared.words.Command.{Command}
+use Rattle.conary_cli.specs.cli-words.Calls.{AreCall}
 use Rattle.conary_cli.specs.Lines.{CallLine}
 use Rattle.conary_cli.specs.Program.{line_state, told_source, IsSomething}
 use Rattle.outcome_laws.specs.Histories.{called, crashed, altered, AfterCall, AfterEdit, Event, LinesOf}

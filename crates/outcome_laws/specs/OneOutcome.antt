@@ -1,7 +1,7 @@
 -- That a command has at most one outcome on a state and an input.
 use Rattle.std.specs.Prelude.{◌≡◌, ℕ, List}
 use Rattle.repo_load.specs.State.{IsRepository}
-use Rattle.local_db.specs.SystemState.{IsSystemState}
+use Rattle.conary_cli.specs.cli-call.local-db.SystemState.{IsSystemState}
 use Rattle.conary_cli.specs.cli-call.cny-laws.State.{Meaning, State}
 use Rattle.conary_cli.specs.cli-call.cny-laws.WholeCall.{Outcome}
 

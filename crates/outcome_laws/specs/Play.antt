@@ -1,32 +1,54 @@
 -- What `play` makes of two disks in memory, event by event.
 use Rattle.std.specs.Prelude.{◌≡◌, ◌⊎◌, ℕ, List, [], ◌∷◌, ◌++◌, Option, Some, Result, Ok, Err}
+use Rattle.cny_flow.specs.Flow.{SinkState}
 use Rattle.conary_cli.specs.cli-call.cny-base.declared.node.Node.{Node}
 use Rattle.conary_cli.specs.cli-call.cny-base.declared.text.OutOfMemory.{OutOfMemory}
 use Rattle.conary_cli.specs.cli-call.tree-disk.Disk.{IsImageOf}
 use Rattle.conary_cli.specs.cli-call.tree-disk.Tree.{Name, Tree}
 use Rattle.conary_cli.specs.cli-call.cny-laws.Edits.{edited_tree, Edit, IsEdit}
 use Rattle.cny_batch.specs.declared.line.Line.{Line}
+use Rattle.conary_cli.specs.Program.{line_state, told_source, IsSomething}
 use Rattle.tree_nodes.specs.Crash.{IsPicked}
 use Rattle.tree_memory.specs.declared.memory.MemoryTree.{MemoryTree}
 use Rattle.tree_memory.specs.Memory.{calls_of, fails_of, faults_of, memory_disk, state, stop_of, Begins, IsEdited, IsSame}
 use Rattle.outcome_laws.specs.declared.playing.Event.{Event}
 use Rattle.outcome_laws.specs.declared.playing.Event.TheVariants as event
-use Rattle.outcome_laws.specs.OnDisks.{WasCalled}
 
 -- ---- how an event ended
 
--- A call answered a status; a crash fell into it; or an edit came to a root that read this tree.
+-- A call came to a root that read this tree, answered a status, and wrote these bytes on its output; a crash fell into it; or an edit
+-- came to a root that read this tree.
 pub data EventEnd : Type 0 where
-  answered : ℕ → EventEnd
+  answered : Tree → ℕ → List ℕ → EventEnd
   stopped : EventEnd
   met : Tree → EventEnd
 
 -- the statuses of the calls among the events, in order: 255 of one into which a crash fell
 abbrev pub statuses_of : List EventEnd → List ℕ
 statuses_of [] = []
-statuses_of (answered status ∷ ends) = status ∷ statuses_of ends
+statuses_of (answered tree status out ∷ ends) = status ∷ statuses_of ends
 statuses_of (stopped ∷ ends) = 255 ∷ statuses_of ends
 statuses_of (met tree ∷ ends) = statuses_of ends
+
+-- what was written by the calls that answered, call by call
+abbrev pub outputs_of : List EventEnd → List (List ℕ)
+outputs_of [] = []
+outputs_of (answered tree status out ∷ ends) = out ∷ outputs_of ends
+outputs_of (stopped ∷ ends) = outputs_of ends
+outputs_of (met tree ∷ ends) = outputs_of ends
+
+-- ---- a call
+
+-- an output that holds these bytes, and hasn't failed
+abbrev pub told_sink : List ℕ → SinkState
+told_sink bytes = record { written = Some bytes; faults = 0 }
+
+-- `run` was called with the words and just the input of a line, and two outputs that held nothing, and no stream failed: the first
+-- clause of `run`. It wrote these bytes on the output, and answered this status.
+pub record WasMade (l : Line) (status : ℕ) (out : List ℕ) (root root' repo repo' : MemoryTree) : Type 0 where
+  pub left : List ℕ
+  pub line : List ℕ
+  pub call : IsSomething memory_disk memory_disk l.words (line_state (told_source l.input) root repo (told_sink [])) (line_state (told_source left) root' repo' (told_sink out)) (told_sink []) (told_sink line) status
 
 -- ---- a stopped call
 
@@ -38,14 +60,15 @@ pub record WillStop (further : ℕ) (old new : MemoryTree) : Type 0 where
   pub fails : fails_of new ≡ fails_of old
   pub faults : faults_of new ≡ faults_of old
 
--- `run` was called with the words and just the input of a line, on disks of which each was to stop after so many calls.
+-- It was called on disks of which each was to stop after so many calls.
 pub record RanStopped (l : Line) (repo_calls root_calls : ℕ) (root root' repo repo' : MemoryTree) : Type 0 where
   pub begun : MemoryTree
   pub far : MemoryTree
   pub root_stop : WillStop root_calls root begun
   pub repo_stop : WillStop repo_calls repo far
   pub status : ℕ
-  pub was_called : WasCalled memory_disk memory_disk l status begun root' far repo'
+  pub out : List ℕ
+  pub was_made : WasMade l status out begun root' far repo'
 
 -- A disk is what a crash leaves of another by this number: all synced, with no stop and no call that fails.
 pub record IsLeft (pick : ℕ) (old new : MemoryTree) : Type 0 where
@@ -71,13 +94,13 @@ MeetsEdit e root root' = (IsEdit (state root).reads e × IsEdited (edited_tree (
 
 -- It was made, and ended so.
 abbrev pub Makes : Event → EventEnd → MemoryTree → MemoryTree → MemoryTree → MemoryTree → Type 0
-Makes (event.Call l) (answered status) root root' repo repo' = WasCalled memory_disk memory_disk l status root root' repo repo'
+Makes (event.Call l) (answered tree status out) root root' repo repo' = (tree ≡ (state root).reads) × WasMade l status out root root' repo repo'
 Makes (event.Call l) stopped root root' repo repo' = ⊥
 Makes (event.Call l) (met tree) root root' repo repo' = ⊥
-Makes (event.Stopped l repo_calls root_calls pick) (answered status) root root' repo repo' = ⊥
+Makes (event.Stopped l repo_calls root_calls pick) (answered tree status out) root root' repo repo' = ⊥
 Makes (event.Stopped l repo_calls root_calls pick) stopped root root' repo repo' = (mid : MemoryTree) × (far : MemoryTree) × RanStopped l repo_calls root_calls root mid repo far × AreLeft pick mid root' far repo'
 Makes (event.Stopped l repo_calls root_calls pick) (met tree) root root' repo repo' = ⊥
-Makes (event.Edit path _) (answered status) root root' repo repo' = ⊥
+Makes (event.Edit path _) (answered tree status out) root root' repo repo' = ⊥
 Makes (event.Edit path _) stopped root root' repo repo' = ⊥
 Makes (event.Edit path node) (met tree) root root' repo repo' = (tree ≡ (state root).reads) × MeetsEdit (edit_of path node) root root' × (repo' ≡ repo)
 

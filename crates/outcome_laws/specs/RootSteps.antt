@@ -6,9 +6,9 @@ use Rattle.conary_cli.specs.cli-call.journal-log.declared.put.Put.{Put}
 use Rattle.conary_cli.specs.cli-call.conflict-plan.Plan.{IsUnshared}
 use Rattle.conary_cli.specs.cli-call.cny-laws.State.{RootState, State, Effect, after}
 use Rattle.conary_cli.specs.cli-call.system-core.Several.{CanTakeBackTo, rolled_back_to}
-use Rattle.dep_closure.specs.Closed.{IsClosed}
-use Rattle.local_db.specs.SystemState.{StackItem}
-use Rattle.local_db.specs.Steps.{after_job}
+use Rattle.conary_cli.specs.root-commands.dep-closure.Closed.{IsClosed}
+use Rattle.conary_cli.specs.cli-call.local-db.SystemState.{StackItem}
+use Rattle.conary_cli.specs.cli-call.local-db.Steps.{after_job}
 
 -- ---- lists
 

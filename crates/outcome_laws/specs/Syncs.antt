@@ -6,9 +6,9 @@ use Rattle.conary_cli.specs.cli-call.cny-laws.State.{State, tree_of}
 use Rattle.repo_load.specs.State.{troves_of}
 use Rattle.trove_spec.specs.declared.config.Config.{Config}
 use Rattle.trove_spec.specs.RootConfig.{config_path, HasConfig}
-use Rattle.sys_model.specs.declared.model.Model.{Model}
-use Rattle.sys_model.specs.RootModel.{model_path, HasModel}
-use Rattle.sys_model.specs.Wanted.{Wants}
+use Rattle.conary_cli.specs.root-commands.sys-model.declared.model.Model.{Model}
+use Rattle.conary_cli.specs.root-commands.sys-model.RootModel.{model_path, HasModel}
+use Rattle.conary_cli.specs.root-commands.sys-model.Wanted.{Wants}
 
 -- This is the list that the root's model wants of the repository, by the root's configuration.
 pub record WantsList (s : State) (list : List TroveParts) : Type 0 where

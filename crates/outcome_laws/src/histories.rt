@@ -8,15 +8,15 @@ ghost use Rattle.conary_cli.specs.cli-call.cny-laws.Reading.{given};
 ghost use Rattle.conary_cli.specs.cli-call.cny-laws.State.{Effect, IsNext, State, tree_of};
 ghost use Rattle.conary_cli.specs.cli-call.cny-laws.WholeCall.{Outcome};
 ghost use Rattle.cny_batch.specs.declared.line.Line.{Line};
-ghost use Rattle.local_db.specs.SystemState.{empty_system, is_listed, StackItem};
+ghost use Rattle.conary_cli.specs.cli-call.local-db.SystemState.{empty_system, is_listed, StackItem};
 ghost use Rattle.conary_cli.specs.root-commands.RollingBack.{roll_back};
-ghost use Rattle.conary_cli.specs.declared.call_words.Call.TheVariants as call;
-ghost use Rattle.conary_cli.specs.declared.words.Command.{Command};
-ghost use Rattle.conary_cli.specs.Calls.{AreCall};
+ghost use Rattle.conary_cli.specs.cli-words.declared.call_words.Call.TheVariants as call;
+ghost use Rattle.conary_cli.specs.cli-words.declared.words.Command.{Command};
+ghost use Rattle.conary_cli.specs.cli-words.Calls.{AreCall};
 ghost use Rattle.conary_cli.specs.Commands.{meaning};
 ghost use Rattle.conary_cli.specs.Lines.{CallLine};
 ghost use Rattle.conary_cli.specs.Several.{AreBatchLines, AreDemoLines};
-ghost use Rattle.conary_cli.specs.Words.{AreWords};
+ghost use Rattle.conary_cli.specs.cli-words.Words.{AreWords};
 ghost use Rattle.outcome_laws.specs.OneOutcome.{AtMostOne, HasOneOutcome, IsState};
 ghost use Rattle.outcome_laws.specs.RootSteps.{HasSoundLists, StepsRoot};
 ghost use Rattle.outcome_laws.specs.Restoring.{EndsRestored};
@@ -25,8 +25,9 @@ ghost use Rattle.outcome_laws.specs.Histories.{AfterCall, AfterLines, Answered, 
 
 use crate::outcomes::{
     one_commit, one_cook, one_description, one_erasure, one_installation, one_list_committed,
-    one_list_installed, one_list_jobs, one_local_change, one_moving, one_rollback, one_sending,
-    one_sync, one_update, one_update_by_input, one_verification,
+    one_list_installed, one_list_jobs, one_local_change, one_mirror_asking, one_mirror_taking,
+    one_moving, one_rollback, one_sending, one_serving, one_sync, one_update, one_update_by_input,
+    one_verification,
 };
 use cny_version::distinct_texts;
 use conary_cli::cny_batch::one_batch;
@@ -39,6 +40,9 @@ pub fn one_outcome()
     one_description();
     one_cook();
     one_commit();
+    one_serving();
+    one_mirror_asking();
+    one_mirror_taking();
     one_list_committed();
     one_update();
     one_update_by_input();

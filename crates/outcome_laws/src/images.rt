@@ -10,7 +10,7 @@ ghost use Rattle.conary_cli.specs.cli-call.cny-laws.Edits.{edits_beside, Edit, H
 ghost use Rattle.conary_cli.specs.cli-call.cny-laws.Report.{status_of};
 ghost use Rattle.conary_cli.specs.cli-call.cny-laws.State.{State};
 ghost use Rattle.conary_cli.specs.cli-call.cny-laws.WholeCall.{after_edits, CallFrom, IsCall, RecoversBoth, RestBoth};
-ghost use Rattle.conary_cli.specs.declared.words.Command.{Command};
+ghost use Rattle.conary_cli.specs.cli-words.declared.words.Command.{Command};
 ghost use Rattle.conary_cli.specs.Commands.{meaning, scope_of};
 ghost use Rattle.conary_cli.specs.Several.{AreBatchLines, AreDemoLines, LinesWereRun};
 ghost use Rattle.outcome_laws.specs.Histories.{Event, Folds};

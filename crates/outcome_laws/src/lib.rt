@@ -8,7 +8,9 @@ mod histories;
 mod images;
 mod opened;
 mod outcomes;
+mod played;
 mod playing;
+mod streams;
 mod syncs;
 
 pub use conary_cli;
@@ -19,8 +21,10 @@ pub use images::{crash_histories, crash_images};
 pub use opened::opened_states;
 pub use outcomes::{
     one_commit, one_cook, one_description, one_erasure, one_installation, one_list_committed,
-    one_list_installed, one_list_jobs, one_local_change, one_moving, one_rollback, one_sending,
-    one_sync, one_update, one_update_by_input, one_verification, stored_states,
+    one_list_installed, one_list_jobs, one_local_change, one_mirror_asking, one_mirror_taking,
+    one_moving, one_rollback, one_sending, one_serving, one_sync, one_update, one_update_by_input,
+    one_verification, stored_states,
 };
+pub use played::played_laws;
 pub use playing::{Event, play};
 pub use syncs::synced_roots;

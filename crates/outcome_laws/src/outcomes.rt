@@ -2,18 +2,21 @@
 ghost use Rattle.std.specs.Prelude.{ℕ, Bool, List, Option};
 ghost use Rattle.conary_cli.specs.cli-call.cny-base.declared.options.Options.{Options};
 ghost use Rattle.conary_cli.specs.cli-call.tree-disk.Tree.{Tree};
-ghost use Rattle.local_db.specs.Stores.{StoresSystem};
+ghost use Rattle.conary_cli.specs.cli-call.local-db.Stores.{StoresSystem};
 ghost use Rattle.conary_cli.specs.cli-call.cny-laws.State.{State};
 ghost use Rattle.repo_load.specs.Files.{StoresRepository};
 ghost use Rattle.cny_version.specs.Label.{LabelParts};
 ghost use Rattle.repo_shadow.specs.declared.way.Way.{Way};
 ghost use Rattle.trove_spec.specs.declared.given.GivenSpec.{GivenSpec};
+ghost use Rattle.conary_cli.specs.repo-commands.AskMirror.{ask_mirror};
 ghost use Rattle.conary_cli.specs.repo-commands.Commit.{commit};
 ghost use Rattle.conary_cli.specs.repo-commands.Cook.{cook};
 ghost use Rattle.conary_cli.specs.repo-commands.Listing.{list_committed};
 ghost use Rattle.conary_cli.specs.repo-commands.Moving.{move};
 ghost use Rattle.conary_cli.specs.repo-commands.Sending.{changeset};
+ghost use Rattle.conary_cli.specs.repo-commands.Serving.{serve};
 ghost use Rattle.conary_cli.specs.repo-commands.ShowChangeSet.{show_change_set};
+ghost use Rattle.conary_cli.specs.repo-commands.TakeMirror.{take_mirror};
 ghost use Rattle.conary_cli.specs.root-commands.Erase.{erase};
 ghost use Rattle.conary_cli.specs.root-commands.Install.{install};
 ghost use Rattle.conary_cli.specs.root-commands.Jobs.{list_jobs};
@@ -30,6 +33,9 @@ use change_rel::{one_relative, one_result};
 use cny_manifest::one_manifest;
 use cny_version::distinct_texts;
 use conary_cli::cli_call::change_set::{one_fault, unique_set};
+use conary_cli::repo_commands::repo_message::one_reply;
+use conary_cli::repo_commands::repo_mirror::one_asking;
+use conary_cli::repo_commands::repo_serve::one_answer;
 use conflict_plan::one_plan;
 use repo_shadow::one_move;
 use repository::commit_step;
@@ -84,6 +90,29 @@ pub fn one_commit()
     one_result();
     unique_set();
     one_fault();
+    commit_step();
+}
+
+/// `serve`.
+pub fn one_serving()
+    ensures { HasOneOutcome serve }
+{
+    one_answer();
+}
+
+/// `mirror ask`.
+pub fn one_mirror_asking()
+    ensures { HasOneOutcome ask_mirror }
+{
+    one_asking();
+}
+
+/// `mirror take`.
+pub fn one_mirror_taking()
+    ensures { HasOneOutcome take_mirror }
+{
+    one_result();
+    one_reply();
     commit_step();
 }
 

@@ -1,17 +1,15 @@
 //! Histories that are made: calls of the program, calls into which a crash falls, and edits by others, on two disks in memory.
-ghost use Rattle.std.specs.Prelude.{◌≡◌, IfOk, OnOk, OnErr};
-ghost use Rattle.tree_memory.specs.Memory.{memory_disk, IsSame};
-ghost use Rattle.outcome_laws.specs.OnDisks.{WasCalled};
-ghost use Rattle.outcome_laws.specs.Play.{edit_of, AreLeft, HasPlayed, IsMade, IsMissed, MeetsEdit, RanStopped};
+ghost use Rattle.std.specs.Prelude.{◌≡◌, IfOk, OnOk, OnErr, List, ℕ};
+ghost use Rattle.tree_memory.specs.Memory.{IsSame};
+ghost use Rattle.outcome_laws.specs.Play.{edit_of, AreLeft, HasPlayed, IsMade, IsMissed, MeetsEdit, RanStopped, WasMade};
 ghost use Rattle.outcome_laws.specs.Played.{IsPlayed};
 
-use crate::histories::one_reading;
-use cny_flow::{MemorySink, MemorySource};
+use crate::streams::{KeptOutput, LineInput};
 use conary_cli::cli_call::store_laws;
 use conary_cli::cny_batch::Line;
 use conary_cli::run;
 use std::alloc::Global;
-use tree_memory::cny_base::{Bytes, Copies, Fails, Node, OutOfMemory, Path};
+use tree_memory::cny_base::{Bytes, Copies, Node, OutOfMemory, Path};
 use tree_memory::{MemoryTree, TreeFault};
 
 /// What happens on two disks.
@@ -57,11 +55,6 @@ impl Drop for Event {
 // The status of a call into which a crash fell.
 const STOPPED: u8 = 255;
 
-// No call fails.
-fn none_fail(alloc: Global) -> Fails {
-    Fails::new(Vec::new(alloc))
-}
-
 // Calls the program with the words of a line and with this input, which is that of the line.
 fn call_line(
     alloc: Global,
@@ -71,11 +64,11 @@ fn call_line(
     root: &mut MemoryTree,
 ) -> u8
     requires { input ≡ line.now.input }
-    ensures { WasCalled memory_disk memory_disk line.now result root.old root.new repo.old repo.new }
+    ensures { (out : List ℕ) × WasMade line.now result out root.old root.new repo.old repo.new }
 {
-    let mut source = MemorySource::new(input, none_fail(alloc));
-    let mut out = MemorySink::new(alloc, none_fail(alloc));
-    let mut err = MemorySink::new(alloc, none_fail(alloc));
+    let mut source = LineInput::new(alloc, input);
+    let mut out = KeptOutput::new(alloc);
+    let mut err = KeptOutput::new(alloc);
     run(
         alloc,
         line.words.get(),
@@ -221,7 +214,7 @@ fn make_all(
 ///
 /// The headline is its clause: from two disks of which whatever a crash leaves recovers to one state, every list of calls, edits and crashes
 /// leads to disks that recover, also after a crash, to the state after the events that were made, of whose calls those lines count that
-/// the statuses tell.
+/// the statuses tell, and what was written.
 pub fn play(
     alloc: Global,
     events: &[Event],
@@ -231,8 +224,7 @@ pub fn play(
 ) -> Result<(), OutOfMemory>
     ensures { IsPlayed events.now result statuses.old statuses.new root.old root.new repo.old repo.new }
 {
-    // What the disks store is told by the names that count, and words call one thing at most.
+    // What the disks store is told by the names that count.
     store_laws();
-    one_reading();
     make_all(alloc, events, repo, root, statuses)
 }

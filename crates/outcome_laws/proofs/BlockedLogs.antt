@@ -1,7 +1,7 @@
--- A root whose log can't be put, since edits are in its way: each call leaves it as it is, and the repository.
-use Rattle.std.proofs.Common.{◌≡◌, inl, inr, ⊎_elim, ℕ, true, List, [], ◌∷◌, Result, Ok, Err, refl, sym, ap, ◌∙◌, subst}
+-- A root whose log can't be put, since edits block it: each call leaves it as it is, and the repository.
+use Rattle.std.proofs.Common.{◌≡◌, inl, inr, ⊎_elim, ℕ, true, List, [], ◌∷◌, Option, Some, Result, Ok, Err, refl, sym, ap, ◌∙◌, subst}
 use Rattle.std.proofs.lemmas.Bool.{cases_Bool}
-use Rattle.cny_flow.specs.Flow.{SinkState, SourceState}
+use Rattle.cny_flow.specs.Flow.{SinkState}
 use Rattle.conary_cli.specs.cli-call.cny-base.Reserved.{private_directory}
 use Rattle.conary_cli.specs.cli-call.tree-disk.Confined.{IsSynced}
 use Rattle.conary_cli.specs.cli-call.tree-disk.Disk.{IsImageOf}
@@ -11,7 +11,7 @@ use Rattle.conary_cli.specs.cli-call.journal-log.declared.put.Put.{Put}
 use Rattle.conary_cli.specs.cli-call.journal-log.LogBytes.{IsLogText}
 use Rattle.conary_cli.specs.cli-call.tree-journal.CanBePut.{AllCanBePut}
 use Rattle.conary_cli.specs.cli-call.tree-journal.Recovery.{at_rest, by_log, is_committed, HoldsLog, RecoversTo}
-use Rattle.local_db.proofs.journal-log.Decoding.{one_log}
+use Rattle.conary_cli.proofs.cli-call.local-db.journal-log.Decoding.{one_log}
 use Rattle.conary_cli.specs.cli-call.cny-laws.declared.failure.Failure.{Failure}
 use Rattle.conary_cli.specs.cli-call.cny-laws.declared.failure.Failure.TheVariants as failure
 use Rattle.conary_cli.specs.cli-call.cny-laws.declared.opened.Opened.{Opened}
@@ -23,14 +23,16 @@ use Rattle.conary_cli.specs.cli-call.cny-laws.State.{State}
 use Rattle.conary_cli.specs.cli-call.cny-laws.WholeCall.{after_edits, IsBlocked, IsNoCall}
 use Rattle.conary_cli.proofs.cli-call.cny-laws.EditedSystems.{flag_kept, log_kept}
 use Rattle.cny_batch.specs.declared.line.Line.{Line}
-use Rattle.conary_cli.specs.declared.call_words.Call.{Call}
-use Rattle.conary_cli.specs.declared.call_words.Call.TheVariants as call
+use Rattle.conary_cli.specs.cli-words.declared.call_words.Call.{Call}
+use Rattle.conary_cli.specs.cli-words.declared.call_words.Call.TheVariants as call
 use Rattle.conary_cli.specs.Program.{line_state, told_source, IsProgramCall, IsSomething}
 use Rattle.tree_memory.specs.declared.memory.MemoryTree.{MemoryTree}
 use Rattle.tree_memory.specs.Memory.{memory_disk, state}
-use Rattle.outcome_laws.specs.OnDisks.{WasCalled}
-use Rattle.outcome_laws.specs.Played.{IsInTheWay}
-use Rattle.outcome_laws.proofs.OnDisks.{never_zero, none_leads, Led}
+use Rattle.outcome_laws.specs.Cuts.{CannotOpen}
+use Rattle.outcome_laws.specs.Play.{told_sink, WasMade}
+use Rattle.outcome_laws.specs.Played.{BlocksLog}
+use Rattle.outcome_laws.proofs.ExactCuts.{not_counted, LedTo}
+use Rattle.outcome_laws.proofs.OnDisks.{never_zero}
 
 -- ---- what edits keep
 
@@ -50,35 +52,47 @@ one_reading x puts others h g =
 
 -- ---- a call
 
--- It did nothing, and failed.
-pub record DoesNothing (status : ℕ) (root root' repo repo' : MemoryTree) : Type 0 where
+-- It did nothing, wrote nothing, and failed.
+pub record DoesNothing (status : ℕ) (out : List ℕ) (root root' repo repo' : MemoryTree) : Type 0 where
   pub reads : (state root').reads ≡ (state root).reads
   pub synced : IsSynced memory_disk root'
   pub same : repo' ≡ repo
   pub some : status ≡ 0 → ⊥
+  pub silent : out ≡ []
 
-module _ (l : Line) (status : ℕ) (root root' repo repo' : MemoryTree) (input : SourceState) (out written err err' : SinkState) (puts : List Put) (synced : IsSynced memory_disk root)
+module _ (l : Line) (status : ℕ) (root root' repo repo' : MemoryTree) (left out line : List ℕ) (puts : List Put) (synced : IsSynced memory_disk root)
     (set : is_committed private_directory (state root).reads ≡ true) (holds : HoldsLog private_directory puts (state root).reads) (cannot : AllCanBePut puts (state root).reads → ⊥) where
   abbrev before : CallState MemoryTree MemoryTree
-  before = line_state (told_source l.input) root repo out
+  before = line_state (told_source l.input) root repo (told_sink [])
 
   abbrev now : CallState MemoryTree MemoryTree
-  now = line_state input root' repo' written
+  now = line_state (told_source left) root' repo' (told_sink out)
 
-  nothing : (e : Failure) → IsNoCall e before now err err' status → DoesNothing status root root' repo repo'
+  abbrev err : SinkState
+  err = told_sink []
+
+  abbrev err' : SinkState
+  err' = told_sink line
+
+  silent : now.out ≡ before.out → out ≡ []
+  silent same = let written : ◌≡◌ {A = Option (List ℕ)} (Some out) (Some []) = ap (λ (o : SinkState). o.written) same in cc written
+
+  nothing : (e : Failure) → IsNoCall e before now err err' status → DoesNothing status out root root' repo repo'
   nothing e is = record {
     reads = ap (λ (m : CallState MemoryTree MemoryTree). (state m.root).reads) is.same;
     synced = λ p. ap (λ (m : CallState MemoryTree MemoryTree). (state m.root).unsynced p) is.same ∙ synced p;
     same = ap (λ (m : CallState MemoryTree MemoryTree). m.repo) is.same;
     some = λ zero_is. ⊎_elim (λ r. never_zero e err err' status r zero_is) (λ r. never_zero failure.Memory err err' status r zero_is) is.reports;
+    silent = silent (ap (λ (m : CallState MemoryTree MemoryTree). m.out) is.same);
   }
 
-  blocked : (end : End) → Reports end err err' status → IsBlocked memory_disk memory_disk before now end → DoesNothing status root root' repo repo'
+  blocked : (end : End) → Reports end err err' status → IsBlocked memory_disk memory_disk before now end → DoesNothing status out root root' repo repo'
   blocked end reports is = record {
     reads = same_tree (state root').reads (state root).reads (λ q. is.untouched.reads q (λ among. absurd cc));
     synced = λ p. ⊎_elim (λ changed. ⊎_elim (λ old. absurd (cc (sym old ∙ synced p))) (λ among. absurd cc) (is.untouched.unsynced p changed)) (λ clean. clean) (cases_Bool ((state root').unsynced p));
     same = is.stops.stops.same;
     some = λ zero_is. never_zero is.stops.failure err err' status (subst (λ (x : End). Reports x err err' status) is.stops.is reports) zero_is;
+    silent = silent is.stops.silent;
   }
 
   -- the root isn't opened
@@ -91,7 +105,7 @@ module _ (l : Line) (status : ℕ) (root root' repo repo' : MemoryTree) (input :
       let is : IsRootOpen memory_disk root mid opened.db = opens.opens_root.opened refl in
       never_reached is.reached.recovered is.reached.recovers
 
-  program : (expected : Result Call Failure) → IsProgramCall memory_disk memory_disk expected before now err err' status → DoesNothing status root root' repo repo'
+  program : (expected : Result Call Failure) → IsProgramCall memory_disk memory_disk expected before now err err' status → DoesNothing status out root root' repo repo'
   program (Ok (call.Single c)) is = blocked is.call.end is.call.reports (is.call.log.blocked refl puts set holds cannot)
   program (Ok call.Batch) (inl is) = blocked is.end is.reports (is.log.blocked refl puts set holds cannot)
   program (Ok call.Batch) (inr run) = absurd (never_opened run.root run.repo run.opened run.opens)
@@ -99,16 +113,16 @@ module _ (l : Line) (status : ℕ) (root root' repo repo' : MemoryTree) (input :
   program (Ok (call.Demo packages)) (inr run) = absurd (never_opened run.root run.repo run.opened run.opens)
   program (Err e) is = nothing e is
 
-  does_nothing : IsSomething memory_disk memory_disk l.words before now err err' status → DoesNothing status root root' repo repo'
+  does_nothing : IsSomething memory_disk memory_disk l.words before now err err' status → DoesNothing status out root root' repo repo'
   does_nothing (inl some) = program some.0 some.2
   does_nothing (inr none) = nothing failure.Memory none
 
--- The edits stay in the way.
-pub called_in_way : (Is : State → Type 0) (l : Line) (status : ℕ) (root root' repo repo' : MemoryTree) → IsInTheWay Is root repo → WasCalled memory_disk memory_disk l status root root' repo repo' → IsInTheWay (Led Is status l) root' repo'
-called_in_way Is l status root root' repo repo' w h =
+-- The edits still block it.
+pub called_blocked : (Is : State → Type 0) (l : Line) (status : ℕ) (out : List ℕ) (root root' repo repo' : MemoryTree) → BlocksLog Is root repo → WasMade l status out root root' repo repo' → BlocksLog (LedTo Is (state root).reads status out l) root' repo'
+called_blocked Is l status out root root' repo repo' w h =
     let set : is_committed private_directory (state root).reads ≡ true = subst (λ (x : Tree). is_committed private_directory x ≡ true) (sym w.reads) (still_set w.edits w.tree w.are w.set) in
     let holds : HoldsLog private_directory w.puts (state root).reads = subst (HoldsLog private_directory w.puts) (sym w.reads) (still_holds w.puts w.edits w.tree w.are w.holds) in
-    let n = does_nothing l status root root' repo repo' h.input h.out h.written h.err h.told w.puts w.synced set holds w.cannot h.call in
+    let n = does_nothing l status root root' repo repo' h.left out h.line w.puts w.synced set holds w.cannot h.call in
     record {
       tree = w.tree;
       edits = w.edits;
@@ -122,5 +136,6 @@ called_in_way Is l status root root' repo repo' w h =
       behind = λ far is.
           let b = w.behind far (subst (λ (d : MemoryTree). IsImageOf memory_disk d far) n.same is) in
           let s = after_edits b.base (edits_beside w.puts w.edits) in
-          record { base = b.base; among = (s, b.among, none_leads l s s status n.some refl); root = b.root; repo = b.repo };
+          let cannot : CannotOpen (state root).reads = inl (record { set = set; puts = w.puts; holds = holds; cannot = w.cannot }) in
+          record { base = b.base; among = (s, b.among, not_counted (state root).reads status out l s cannot n.some n.silent); root = b.root; repo = b.repo };
     }

@@ -1,0 +1,146 @@
+-- Once nothing is unsynced on either disk, the cuts are fixed; and when that is so.
+use Rattle.std.proofs.Common.{◌≡◌, ◌⊎◌, inl, inr, ⊎_elim, ℕ, ◌≤◌, Bool, true, false, List, [], Result, Ok, Err, refl, sym, ap, ◌∙◌, subst, arith}
+use Rattle.cny_flow.specs.Flow.{SinkState}
+use Rattle.conary_cli.specs.cli-call.cny-base.declared.text.OutOfMemory.{OutOfMemory}
+use Rattle.conary_cli.specs.cli-call.tree-disk.Disk.{IsImageOf}
+use Rattle.conary_cli.specs.cli-call.tree-disk.Confined.{IsSynced}
+use Rattle.conary_cli.specs.cli-call.tree-disk.Tree.{Tree}
+use Rattle.conary_cli.proofs.cli-call.tree-disk.Laws.{reads_image}
+use Rattle.conary_cli.specs.cli-call.cny-laws.declared.failure.Failure.{Failure}
+use Rattle.conary_cli.specs.cli-call.cny-laws.declared.failure.Failure.TheVariants as failure
+use Rattle.conary_cli.specs.cli-call.cny-laws.Call.{CallState, NotOpened}
+use Rattle.conary_cli.specs.cli-call.cny-laws.Edits.{edits_beside}
+use Rattle.conary_cli.specs.cli-call.cny-laws.Report.{status_of, End, Reports}
+use Rattle.conary_cli.specs.cli-call.cny-laws.State.{Meaning, Scope, State}
+use Rattle.conary_cli.specs.cli-call.cny-laws.Store.{IsStore, Recovers}
+use Rattle.conary_cli.specs.cli-call.cny-laws.Stores.{repository_store, root_store}
+use Rattle.conary_cli.specs.cli-call.cny-laws.WholeCall.{after_edits, IsCall, IsNoCall}
+use Rattle.cny_batch.specs.declared.line.Line.{Line}
+use Rattle.conary_cli.specs.cli-words.declared.call_words.Call.{Call}
+use Rattle.conary_cli.specs.cli-words.declared.call_words.Call.TheVariants as call
+use Rattle.conary_cli.specs.Commands.{meaning, scope_of}
+use Rattle.conary_cli.specs.Program.{line_state, told_source, IsProgramCall, IsSomething}
+use Rattle.conary_cli.specs.Several.{before_lines, of_input, AreBatchLines, AreDemoLines, LinesWereRun, Making}
+use Rattle.tree_memory.specs.declared.memory.MemoryTree.{MemoryTree}
+use Rattle.tree_memory.specs.Memory.{memory_disk, memory_laws, state}
+use Rattle.outcome_laws.specs.declared.playing.Event.{Event}
+use Rattle.outcome_laws.specs.Images.{CrashesTo, RecoversIn}
+use Rattle.outcome_laws.specs.Play.{told_sink, AreLeft, EventEnd, MakesAll, MakesBy, WasMade}
+use Rattle.outcome_laws.specs.Played.{BlocksLog, IsBehind, LeadThrough, NotBothOpened, Stands}
+use Rattle.outcome_laws.proofs.CrashLeft.{left_synced, weaker_left}
+use Rattle.outcome_laws.proofs.ExactCuts.{told_status}
+use Rattle.outcome_laws.proofs.PlayedStates.{all_stand, by_stand, is_synced, weaker_stands}
+
+-- ---- one state
+
+-- all that is left of two disks of which nothing is unsynced recovers to one of the states
+module _ (Is : State → Type 0) (root repo : MemoryTree) (synced : IsSynced memory_disk root) (far_synced : IsSynced memory_disk repo) where
+  abbrev OneState : Type 0
+  OneState = (t : State) × Is t × Stands (λ u. u ≡ t) root repo
+
+  one_left : CrashesTo memory_disk memory_disk Is root repo → OneState
+  one_left crashes = (c.state, c.among, inl one)
+    where
+      c : RecoversIn Is (state root).reads (state repo).reads
+      c = crashes (state root).reads (state repo).reads (reads_image memory_laws root) (reads_image memory_laws repo)
+
+      one : CrashesTo memory_disk memory_disk (λ u. u ≡ c.state) root repo
+      one image far is is_far = record {
+        state = c.state;
+        among = refl;
+        root = subst (λ (t : Tree). Recovers root_store t c.state.root) (sym (left_synced memory_disk root synced image is)) c.root;
+        repo = subst (λ (t : Tree). Recovers repository_store t c.state.repository) (sym (left_synced memory_disk repo far_synced far is_far)) c.repo;
+      }
+
+  one_blocked : BlocksLog Is root repo → OneState
+  one_blocked w = (
+    after_edits b.base (edits_beside w.puts w.edits),
+    b.among,
+    inr (record {
+      tree = w.tree;
+      edits = w.edits;
+      puts = w.puts;
+      are = w.are;
+      reads = w.reads;
+      synced = w.synced;
+      set = w.set;
+      holds = w.holds;
+      cannot = w.cannot;
+      behind = λ far is. record {
+        base = b.base;
+        among = refl;
+        root = b.root;
+        repo = subst (λ (t : Tree). Recovers repository_store t b.base.repository) (sym (left_synced memory_disk repo far_synced far is)) b.repo;
+      };
+    }),
+  )
+    where
+      b : IsBehind Is w.tree w.edits w.puts (state repo).reads
+      b = w.behind (state repo).reads (reads_image memory_laws repo)
+
+  one_state : Stands Is root repo → OneState
+  one_state (inl crashes) = one_left crashes
+  one_state (inr w) = one_blocked w
+
+-- the later events lead from it
+pub cuts_fixed : IsStore repository_store → (events rest : List Event) (ends later : List EventEnd) (result : Result (Unit {0}) OutOfMemory) (root mid root' repo far repo' : MemoryTree) (s : State) → CrashesTo memory_disk memory_disk (λ t. t ≡ s) root repo
+    → MakesAll events ends root mid repo far → IsSynced memory_disk mid → IsSynced memory_disk far → MakesBy result rest later mid root' far repo' → (t : State) × LeadThrough events ends s t × Stands (LeadThrough rest later t) root' repo'
+cuts_fixed repo_laws events rest ends later result root mid root' repo far repo' s crashes made synced far_synced more =
+    let here = weaker_stands (λ u led. subst (λ (t : State). LeadThrough events ends t u) led.1 led.2) mid far (all_stand repo_laws events ends (λ t. t ≡ s) root mid repo far (inl crashes) made) in
+    let one = one_state (LeadThrough events ends s) mid far synced far_synced here in
+    (one.0, one.1, weaker_stands (λ u led. subst (λ (t : State). LeadThrough rest later t u) led.1 led.2) root' repo' (by_stand repo_laws result rest later (λ t. t ≡ one.0) mid root' far repo' one.2 more))
+
+-- ---- when nothing is unsynced
+
+pub crash_synced : (pick : ℕ) (root root' repo repo' : MemoryTree) → AreLeft pick root root' repo repo' → IsSynced memory_disk root' × IsSynced memory_disk repo'
+crash_synced pick root root' repo repo' left = (is_synced root' (state root').reads left.on_root.begins.state, is_synced repo' (state repo').reads left.on_repo.begins.state)
+
+module _ (l : Line) (status : ℕ) (out left line : List ℕ) (root root' repo repo' : MemoryTree) (small : status ≤ 4) where
+  abbrev before : CallState MemoryTree MemoryTree
+  before = line_state (told_source l.input) root repo (told_sink [])
+
+  abbrev now : CallState MemoryTree MemoryTree
+  now = line_state (told_source left) root' repo' (told_sink out)
+
+  abbrev err : SinkState
+  err = told_sink []
+
+  abbrev err' : SinkState
+  err' = told_sink line
+
+  abbrev Settles : Type 0
+  Settles = NotBothOpened root root' repo repo' ⊎ (IsSynced memory_disk root' × IsSynced memory_disk repo')
+
+  low_end : (end : End) → Reports end err err' status → status_of end ≤ 4
+  low_end (Ok x) reports = omega arith
+  low_end (Err e) reports = ⊎_elim
+      (λ own. omega (arith, own, small))
+      (λ seven. absurd (omega (arith, seven, small)))
+      (told_status e err err' status reports)
+
+  no_call : (e : Failure) → IsNoCall e before now err err' status → Settles
+  no_call e is = inl (inl (ap (λ (m : CallState MemoryTree MemoryTree). m.root) is.same, ap (λ (m : CallState MemoryTree MemoryTree). m.repo) is.same))
+
+  one_call : (scope : Scope) (m : Meaning) → IsCall memory_disk memory_disk scope m before now err err' status → Settles
+  one_call scope m is = ⊎_elim
+      (λ stops. inl (inr (stops.failure, stops.stops)))
+      (λ opened. inr ((opened.root_rests (low_end is.end is.reports) refl).synced, (opened.repo_rests (low_end is.end is.reports) refl).synced))
+      is.reaches
+
+  lines_call : (takes : Bool) (AreLines : Making) → LinesWereRun memory_disk memory_disk takes AreLines before now err err' status → Settles
+  lines_call takes AreLines run = let rest = run.rest (low_end run.end run.reports) in inr ((rest.root refl).synced, (rest.repo refl).synced)
+
+  program : (expected : Result Call Failure) → IsProgramCall memory_disk memory_disk expected before now err err' status → Settles
+  program (Ok (call.Single c)) is = one_call (scope_of c) (meaning c) is.call
+  program (Ok call.Batch) (inl is) = one_call of_input (before_lines true AreBatchLines) is
+  program (Ok call.Batch) (inr run) = lines_call true AreBatchLines run
+  program (Ok (call.Demo packages)) (inl is) = one_call of_input (before_lines false (AreDemoLines packages)) is
+  program (Ok (call.Demo packages)) (inr run) = lines_call false (AreDemoLines packages) run
+  program (Err e) is = no_call e is
+
+  something_settles : IsSomething memory_disk memory_disk l.words before now err err' status → Settles
+  something_settles (inl some) = program some.0 some.2
+  something_settles (inr none) = no_call failure.Memory none
+
+pub call_synced : (l : Line) (status : ℕ) (out : List ℕ) (root root' repo repo' : MemoryTree) → WasMade l status out root root' repo repo' → status ≤ 4 → NotBothOpened root root' repo repo' ⊎ (IsSynced memory_disk root' × IsSynced memory_disk repo')
+call_synced l status out root root' repo repo' h small = something_settles l status out h.left h.line root root' repo repo' small h.call

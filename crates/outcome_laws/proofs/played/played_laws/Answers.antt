@@ -1,0 +1,18 @@
+use Rattle.outcome_laws.proofs.FixedCuts.{call_synced, crash_synced, cuts_fixed}
+use Rattle.outcome_laws.proofs.ToldFolds.{told_folds, uncut_answered}
+use Rattle.outcome_laws.proofs.played.played_laws.Goals as goal
+
+pub returns-clause-fold : goal.returns-clause-fold
+returns-clause-fold c = told_folds
+
+pub returns-clause-answered : goal.returns-clause-answered
+returns-clause-answered c = uncut_answered
+
+pub returns-clause-fixed : goal.returns-clause-fixed
+returns-clause-fixed c = cuts_fixed c.store_laws.ensures
+
+pub returns-clause-synced : goal.returns-clause-synced
+returns-clause-synced c = call_synced
+
+pub returns-clause-crashed : goal.returns-clause-crashed
+returns-clause-crashed c = crash_synced
