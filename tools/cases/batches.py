@@ -1,4 +1,4 @@
-"""Batches, good and broken, and lines of the demo: calls and their arguments. tools/model/batches.py and tools/model/demo.py say what each answers."""
+"""Batches, good and broken, and lines of the demo: calls and their arguments; tools/model/batches.py says what each answers."""
 from urllib.parse import unquote_to_bytes
 
 from tools.cases.rows import Rows, repeated
@@ -32,9 +32,7 @@ def cuts():
 
 def demo():
     """Every line of small demos, and of larger ones those about which numbers get a digit more, and the last ones."""
-    for packages in (0, 1, 2, 12):
-        for place in range(2 * packages + 6):
-            yield "demo", str(packages), str(place)
+    yield from (("demo", str(packages), str(place)) for packages in (0, 1, 2, 12) for place in range(2 * packages + 6))
     for packages in (9, 10, 11, 99, 100, 101, 199, 200):
         for place in sorted({0, 8, 9, packages - 1, packages, packages + 1, packages + 2, packages + 11, *range(2 * packages + 1, 2 * packages + 6)}):
             yield "demo", str(packages), str(place)

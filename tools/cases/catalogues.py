@@ -1,18 +1,16 @@
 """Lines of list_lines on a catalogue, on specifications and configuration files, and the answers.
 
-The calls act on one catalogue, which is empty at first: the list of all troves that were added, which each look-up searches from
-end to end. What specifications mean, what references reach, shadows and branches are those of tools/model/repository.py.
-"""
+The calls act on one catalogue, which is empty at first: the list of all troves that were added, which each look-up searches from end to end. What
+specifications mean, what references reach, shadows and branches are those of tools/model/repository.py."""
 import itertools
 import re
 import sys
-from random import Random
 
 from tools.cases.rows import Rows
 from tools.lines.words import digits
 from tools.model import repository
 from tools.model.streams import regular, trove_bytes, trove_of
-from tools.model.texts import NotOfForm, branch_of, flavor_of, flavor_text, id_of_text, id_text, shadow_of, version_of
+from tools.model.texts import NotOfForm, flavor_of, flavor_text, id_of_text, id_text, version_of
 from tools.model.trees import Refused
 
 LABEL = b"conary.example.com@ex:devel"
@@ -34,7 +32,6 @@ TABLE = Rows("catalogues", globals(), {f"L{size}": b"h@n:" + b"t" * (size - 4) f
 WORKED = [topic for topic in TABLE.topics if "_" in topic]
 
 # ---- what each call answers, and how a line has its arguments
-
 
 def trove(text, contents, refs):
     """A trove with this id and these references, and a file of one byte for each content, whose name is twenty times a byte."""
@@ -165,7 +162,6 @@ def line_of(call, *arguments):
 
 # ---- the calls
 
-
 def add(text, *refs):
     """A component has one content, every other trove references alone."""
     return "add", text, [97] if b":" in id_of_text(text).name else [], refs
@@ -240,8 +236,7 @@ def config_calls():
         yield "config", front + key + between + value + back
     lines += (b"installLabelPath " + b" ".join(b"a@b:c%d" % place for place in range(count)) for count in (63, 64, 65))
     for first, second in itertools.product(lines, lines):
-        yield "config", first + b"\n" + second
-        yield "config", first + b"\r\n\r\n" + second + b"\r\n"
+        yield from (("config", first + b"\n" + second), ("config", first + b"\r\n\r\n" + second + b"\r\n"))
         yield "config", b"flavor zip\ninstallLabelPath x@y:z\n" + first + b"\n" + second + b"\n"
     yield "config", b"\n" * 65528 + b"flavor !"
 
@@ -279,19 +274,7 @@ def expand_calls():
     yield from (("expand", first, *second) for first in texts for second in [[], *([text] for text in texts)])
     yield "expand", *chain
     yield from calls_in("many roots")
-    yield from random_expansions()
-
-
-def random_expansions():
-    """Groups with references to some of the others, and what some of them reach."""
-    dice = Random(25)
-    for turn in range(6):
-        names = [b"group-r%d-%02d" % (turn, place % (12, 20)[turn % 2]) for place in range(20)]
-        texts = [named(name, on(LABEL, b"1.0-%d-1" % (place // 12 + 1))) for place, name in enumerate(names)]
-        for text in texts:
-            others = [other for other in texts if id_of_text(other).name != id_of_text(text).name]
-            yield add(text, *dice.sample(others, dice.choice((0, 0, 1, 1, 2, 3))))
-        yield from (("expand", *dice.sample(texts, count)) for count in (1, 1, 1, 1, 2, 2, 3, 5) for _ in range(5))
+    yield from calls_in("groups by chance, and what some of them reach")
 
 
 def move(text, *labels):
@@ -307,34 +290,9 @@ def moved_calls():
     yield from calls_in("moved")
     # At the limit of a version's text, and past it: the first that is too long, the label before, the existing id after.
     yield from calls_in("moved at the limit of a version")
-    yield from random_moves()
+    yield from calls_in("components by chance, and groups of them, of which some moved ids exist already")
     # With a reference to nothing, if only of a trove that the root doesn't reach.
     yield from (add(named(b"group-lost"), named(b"absent")), *move(named(b"b:lib"), OTHER))
-
-
-def random_moves():
-    """Components on some labels and groups of them, of which some moved ids exist already."""
-    dice, labels = Random(9), [b"a@b:c", b"d@e:f", b"x.y@z:w", b"a@b:d"]
-    for _ in range(12):
-        yield ("new",)
-        texts = []
-        for place in range(dice.choice((3, 5, 8))):
-            label = dice.choice(labels[: dice.choice((1, 2, 4))])
-            base, end = b"/" + labels[0], label + b"/1.0-1-1"
-            version = dice.choice((on(label, b"1.0-%d-1" % dice.choice((1, 2))), base + b"//" + end, base + b"/1.0-1-1/" + end))
-            text = named(b"c%d:lib" % place, version, dice.choice((b"", b"[ssl]")))
-            if text not in texts:
-                texts.append(text)
-                yield add(text)
-        for place in range(6):
-            text = named(b"group-%d" % place, on(dice.choice(labels[:2]), b"1.0-1-1"))
-            yield add(text, *dice.sample(texts, min(len(texts), dice.choice((1, 2, 3)))))
-            texts.append(text)
-        for identity in map(id_of_text, dice.sample(texts, 3)):
-            label = dice.choice(labels[:3])
-            if b":" in identity.name:
-                yield add(named(identity.name, dice.choice((shadow_of, branch_of))(version_of(identity.version, True), label).text))
-        yield from (call for text in texts for call in move(text, *labels))
 
 
 def index_thousand_names():
@@ -385,5 +343,4 @@ def lines():
             if found != wanted:
                 sys.exit(f"{name}: {found!r} and not {wanted!r}")
     answers = Answers()
-    for call in calls():
-        yield line_of(*call), answer(answers, *call).decode()
+    yield from ((line_of(*call), answer(answers, *call).decode()) for call in calls())

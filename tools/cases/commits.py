@@ -1,6 +1,5 @@
-"""Cases of commits: change sets that are committed to the tree of a repository one after another, and commits of the program that are
-cut off or fail. The troves and most sets are rows of commits.txt: there a set is its parts and, behind a `:`, the contents that it carries.
-"""
+"""Cases of commits: change sets that are committed to the tree of a repository one after another, and commits of the program that are cut off or
+fail. The troves and most sets are rows of commits.txt: there a set is its parts and, behind a `:`, the contents that it carries."""
 from tools.cases.repositories import commit_answer, component, tree_of
 from tools.cases.samples import RELATIVE, SET, V1 as F1, V2 as F2, carried, content_at, file
 from tools.cases.rows import ONE, OTHER, Rows
@@ -43,24 +42,19 @@ ADD_V1, ADD_V2 = change_set("V1: OLD NEW"), change_set("V2: NEW ELSE")
 
 def roots():
     """Trees on which the first commit is made, or the second."""
-    for tree in (NOTHING, {**NOTHING, BASE: JUNK}, {**NOTHING, BASE: LINK}, {**NOTHING, BASE: NARROW}):
-        yield tree, ADD_V1
-    for node in (JUNK, LINK, NARROW):
-        yield {**NOTHING, BASE: DIR, CONTENTS: node}, ADD_V1
+    yield from ((tree, ADD_V1) for tree in (NOTHING, {**NOTHING, BASE: JUNK}, {**NOTHING, BASE: LINK}, {**NOTHING, BASE: NARROW}))
+    yield from (({**NOTHING, BASE: DIR, CONTENTS: node}, ADD_V1) for node in (JUNK, LINK, NARROW))
     # What stands at the name behind that of the new file, and farther on.
     for node in (JUNK, LINK, DIR, file(commit_bytes([TROVES["V2"]]))):
-        for number in (3, 4):
-            yield {**FIRST, commit_path(number): node}, ADD_V2
+        yield from (({**FIRST, commit_path(number): node}, ADD_V2) for number in (3, 4))
     yield {**FIRST, commit_path(3): DIR, commit_path(3) + b"/below": DIR, commit_path(3) + b"/below/that": JUNK}, ADD_V2
     # What stands under the name of a new content.
-    for node in (JUNK, LINK, DIR, file(ELSE, 0o644), file(ELSE[:2])):
-        yield {**FIRST, content_at(ELSE): node}, ADD_V2
+    yield from (({**FIRST, content_at(ELSE): node}, ADD_V2) for node in (JUNK, LINK, DIR, file(ELSE, 0o644), file(ELSE[:2])))
     yield {**FIRST, content_at(ELSE): DIR, content_at(ELSE) + b"/below": DIR, content_at(ELSE) + b"/below/that": JUNK}, ADD_V2
     # A content that is committed isn't written again; one that nothing names stays as it is.
     yield {**FIRST, content_at(NEW): file(NEW, 0o644), content_at(b""): JUNK, CONTENTS + b"/else": JUNK}, ADD_V2
     # No parts: nothing is made or cleared.
-    for tree in (NOTHING, {**NOTHING, BASE: JUNK}, {**FIRST, commit_path(3): JUNK}):
-        yield tree, change_set("")
+    yield from ((tree, change_set("")) for tree in (NOTHING, {**NOTHING, BASE: JUNK}, {**FIRST, commit_path(3): JUNK}))
 
 
 def collisions():
@@ -100,11 +94,8 @@ PICKS += [0x9E37_79B9_7F4A_7C15, 0xD1B5_4A32_D192_ED03, 0x2545_F491_4F6C_DD1D]
 def cut_off():
     """Commits that are cut off, or fail."""
     crowded = {**FIRST, commit_path(3): file(commit_bytes([TROVES["BAR"]])), content_at(ELSE): DIR, content_at(ELSE) + b"/below": JUNK}
-    yield NOTHING, ADD_V1
-    yield {**NOTHING, BASE: LINK}, ADD_V1
-    yield {**NOTHING, BASE: DIR, CONTENTS: JUNK}, ADD_V1
-    yield FIRST, change_set("PACKAGE GROUP BAR: EMPTY")
-    yield crowded, change_set("TO_V2: ELSE")
+    yield from ((NOTHING, ADD_V1), ({**NOTHING, BASE: LINK}, ADD_V1), ({**NOTHING, BASE: DIR, CONTENTS: JUNK}, ADD_V1))
+    yield from ((FIRST, change_set("PACKAGE GROUP BAR: EMPTY")), (crowded, change_set("TO_V2: ELSE")))
     yield SECOND, change_set("OTHERS_TOO V2: OTHER ELSE NEW")
 
 

@@ -1,18 +1,16 @@
 """Cases of the journal: write sets that are applied to trees in memory, cut off, left as a crash may leave them, and recovered.
 
-A case is a call and its arguments; tools/lines/disk_lines.py says them as lines, and computes the answers by the runs of
-tools/model/runs.py. Where a case was worked out by hand, its wanted answer stands beside it, and the model is held against that.
+A case is a call and its arguments; tools/lines/disk_lines.py says them as lines, and computes the answers by the runs of tools/model/runs.py. Where
+a case was worked out by hand, its wanted answer stands beside it, and the model is held against that.
 
-A tree is a map from paths to nodes; a write set is a list of pairs of a path and what is to stand there.
-"""
-from tools.cases.disks import Draws
+A tree is a map from paths to nodes; a write set is a list of pairs of a path and what is to stand there."""
 from tools.cases.logs import held
 from tools.cases.rows import Rows, from_hex
 from tools.lines import words
 from tools.model.runs import (
     BASE, JOURNAL, PICKS, applied, applied_cuts, calls_until, cuts_found, images_found, recovered, seen_in_apply, seen_in_recovery, stored,
 )  # fmt: skip
-from tools.model.trees import DIR, Tree, is_of, parent_of
+from tools.model.trees import DIR, Tree
 
 TABLE = Rows("journals", data=from_hex)
 GATE = JOURNAL.gate
@@ -66,8 +64,7 @@ def by_hand():
 
 
 def seen():
-    """What stands at a path after each call of an application, and of the recovery right after its commit flag was written. Then two
-    crashes."""
+    """What stands at a path after each call of an application, and of the recovery right after its commit flag was written. Then two crashes."""
     for row in TABLE.rows("seen"):
         wanted, nodes, puts, path = worked(row)
         path, calls = path.encode(), calls_until(nodes, puts, GATE) + 1
@@ -134,39 +131,13 @@ def failing():
         yield from (("recover", set_up, BASE, call) for call in range(1, recovered(Tree(set_up)).tree.calls + 1))
 
 
-PATHS = [b"/a", b"/a-", b"/a/b", b"/a/b/c", b"/a/d", b"/b", b"/b/e"]
-NODES = [DIR, ("dir", 0o700), DIR, ("file", 0o644, b""), ("file", 0o600, b"f"), ("file", 0o4755, b"more"), ("link", b"a"), ("link", b"/b")]
-
-
-def some_tree(draws):
-    nodes = {b"/": DIR, b"/var": DIR, b"/var/lib": DIR}
-    for path in PATHS:
-        if is_of(nodes.get(parent_of(path)), "dir") and draws.chance(60):
-            nodes[path] = draws.one_of(NODES)
-    return nodes
-
-
-def some_case(draws):
-    """A tree, and a write set that makes another one of it. It puts some nodes that stand already, too."""
-    before, after = some_tree(draws), some_tree(draws)
-    puts = [(path, after.get(path)) for path in PATHS if before.get(path) != after.get(path) or (path in before and draws.chance(20))]
-    if draws.chance(30):
-        before |= dict(TABLE.nodes(*TABLE.rows("another job")))
-    return before, puts
-
-
 def by_chance():
-    """Trees and write sets by chance: applied, cut off and crashed, and what is seen meanwhile."""
-    draws, picks = Draws(5), [0, *PICKS, ALL_TORN]
-    for _ in range(60):
-        nodes, puts = some_case(draws)
-        total = applied(nodes, puts).tree.calls
+    """Trees and write sets that were drawn by chance: applied, cut off and crashed, and what is seen meanwhile."""
+    for row in TABLE.rows("by chance"):
+        _, nodes, puts, *calls = worked(row)
         yield "apply", nodes, puts, 0
-        for _ in range(3):
-            yield "crash_in", nodes, puts, draws.below(total), draws.bits(64)
-        for path, _ in draws.some_of(puts, min(2, len(puts))):
-            yield "see", nodes, puts, draws.one_of(picks), path
-            yield "see_again", nodes, puts, draws.below(total), draws.one_of(picks), path
+        for call, *numbers in map(str.split, calls):
+            yield call, nodes, puts, *(int(word) if word.isdigit() else word.encode() for word in numbers)
 
 
 CASES = (by_hand, seen, images, cuts, failing, by_chance)

@@ -1,19 +1,16 @@
-"""Lines of list_lines on fingerprints, plans, their write sets and verifications, and the answers by tools/model/plans.py; how often a
-plan looks at the disk and reads it, and how often a write set asks for contents and files, from what docs/DESIGN.md says of their
-cost. In plans.txt there are cases that are told one by one: what stands, and the troves before and, but for verifications, after, as
-tools/cases/rows.py reads them, and then what else is given.
-"""
+"""Lines of list_lines on fingerprints, plans, their write sets and verifications, and the answers by tools/model/plans.py; how often a plan looks
+at the disk and reads it, and how often a write set asks for contents and files, from what docs/DESIGN.md says of their cost. In plans.txt there are
+cases that are told one by one: what stands, and the troves before and, but for verifications, after, as tools/cases/rows.py reads them, and then
+what else is given."""
 import itertools
-import random
 
-from tools.cases.rows import ONE, OTHER, Rows, content, recorded
+from tools.cases.rows import ONE, OTHER, Rows, content
 from tools.lines.words import digits, node_word, tree_word, word, yes_or_no
 from tools.model.plans import FIXED, all_paths, owned, plan_changes, record, write_set
 from tools.model.records import mark_of, mark_of_record
 from tools.model.reports import finding_line
 from tools.model.root import found_at
-from tools.model.streams import different_bytes, file_of, flag_letters, flags_of_letters, sha, trove_bytes, trove_of
-from tools.model.texts import Refused
+from tools.model.streams import Refused, different_bytes, file_of, flag_letters, flags_of_letters, sha, trove_bytes, trove_of
 from tools.model.trees import parent_of
 
 PIECE = 65_536
@@ -21,7 +18,6 @@ TABLE = Rows("plans", data=content)
 TABLE.names.update(row.split(" = ") for row in TABLE.topics["names"])
 
 # ---- nodes, records and texts
-
 
 def data(text):
     """Bytes, of a text where they aren't given."""
@@ -51,8 +47,7 @@ def troves_of(text):
     return {(name or "a:lib").encode(): dict(TABLE.nodes(files, TABLE.record)) for name, _, files in troves}
 
 
-D, LA = each("dir; link a")
-RD, RLB = each("dir; link b", TABLE.record)
+D, RD = TABLE.node("dir"), TABLE.record("dir")
 
 
 def at(*nodes):
@@ -104,7 +99,6 @@ def given_in(row, lists):
 
 
 # ---- plans
-
 
 def compared(old, fresh):
     """The paths whose fingerprint is taken: those of which the two lists record something else."""
@@ -179,103 +173,44 @@ def flag_lines():
         yield plan_line(at("/p", one), of_one(old), of_one(new), *options)
 
 
-def random_tree(rng, paths, share, choose):
-    """Nodes at some of the paths, each in a directory."""
-    made = {b"/": D}
-    for path in paths:
-        if kind_at(made, parent_of(path)) == "dir" and rng.random() < share:
-            made[path] = choose()
-    return made
-
-
-def random_troves(rng, recs, paths, share, most):
-    """Troves that are in the list by chance, and record by chance what is at each of the paths."""
-    names = (name for name in (b"a:lib", b"b:lib", b"c:lib") if rng.random() < most)
-    return {name: {path: rng.choice(recs) for path in paths if rng.random() < share} for name in names}
-
-
-def random_lines(count):
-    """Small trees and lists by chance, from a fixed seed."""
-    rng = random.Random(30)
-    paths = [path.encode() for path in "/a /a-b /a-b/c /a/b /a/b/c /a/b/d /a/c /b /b/a /b/a/b".split()]
-    nodes = each("dir; dir; dir 0700; file x; file y; link a")
-    recs = each("dir; dir; dir; dir 0700; file x; file y; file y c; file y i; file y t; link a; link b", TABLE.record)
-
-    def without_clash(made):
-        """Of several troves with one path that isn't a directory in all, the first alone has it."""
-        for path in paths:
-            found = [name for name in sorted(made) if path in made[name]]
-            if any(made[name][path].kind != "d" for name in found):
-                for name in found[1:]:
-                    del made[name][path]
-        return made
-
-    def near(made, stands):
-        """The list with most of its records as things stand."""
-        for files in made.values():
-            for path in files:
-                one = stands.get(path)
-                if one is not None and rng.random() < 0.7:
-                    files[path] = recorded(one, rng.choice(["", "", "c", "i"]) if one[0] == "file" else "")
-        return made
-
-    for _ in range(count):
-        stands = random_tree(rng, paths, 0.75, lambda: rng.choice(nodes))
-        old = without_clash(near(random_troves(rng, recs, paths, 0.6, 0.6), stands))
-        fresh = random_troves(rng, recs, paths, 0.5, 0.6)
-        if rng.random() < 0.9:
-            fresh = without_clash(fresh)
-        options = rng.choice([[], ["replace"], ["replace"], ["keep"], ["keep", "replace"]]) + rng.choice([[], ["calls"]])
-        yield plan_line(stands, old, fresh, *options)
-
-
 # ---- fingerprints and differences
 
-
-def mark_line(tree, path, wanted=None, words=""):
-    stands = mark_text(rooted(tree).get(path.encode()))
-    return call_line("mark", tree_word(tree, word), path, words=words), stands if wanted is None else wanted
+def mark_at(tree, path):
+    return mark_of(rooted(tree_of(tree)).get(path.encode()))
 
 
-def matches_line(tree, path, record, wanted, words=""):
-    return call_line("matches", tree_word(tree, word), record_field(path, record), words=words), wanted
+def mark_recorded(text):
+    return mark_of_record(TABLE.file(text)[1])
+
+
+# The arguments of a call, and what it answers.
+MARKS = {
+    "mark_file": lambda text: (["0644", word(data(text))], mark_text(node(text))),
+    "mark": lambda tree, path: ([tree_word(tree_of(tree), word), path], node_word(mark_at(tree, path))),
+    "matches": lambda tree, file: (
+        [tree_word(tree_of(tree), word), record_field(*TABLE.file(file))], yes_or_no(mark_at(tree, file.rpartition(" ")[2]) == mark_recorded(file))
+    ),
+    "same": lambda one, other: ([record_field(*TABLE.file(text)) for text in (one, other)], yes_or_no(mark_recorded(one) == mark_recorded(other))),
+    "alike": lambda tree, one, other: ([tree_word(tree_of(tree), word), one, other], yes_or_no(mark_at(tree, one) == mark_at(tree, other))),
+    "differing": lambda tree, path, text: (
+        [tree_word(tree_of(tree), word), path, word(data(text))], str(different_bytes(tree_of(tree)[path.encode()][2], data(text)))
+    ),
+    "verified": lambda path: ([path], path + " 1"),
+}
 
 
 def mark_lines():
-    for text in ("-", "a", "abc", "4096*a", "65535*b", "65536*b", "65537*b", "131072*c+d", "200000*e"):
-        stands = at("/f", node(text))
-        yield f"mark_file\t0644\t{word(data(text))}", mark_text(stands[b"/f"])
-        yield mark_line(stands, "/f")
-        yield from (matches_line(stands, b"/f", rec(text, "", mode), yes_or_no(mode == 0o644)) for mode in (0o644, 0o600))
-        yield matches_line(stands, b"/f", rec(text + "+x", "cit"), "no")
-        front = "" if text == "-" else text + "+"
-        yield matches_line(at("/f", node(front + "1*x")), b"/f", rec(front + "1*y"), "no")
-    yield from (mark_line(at("/d", one), "/d", wanted) for one, wanted in ((D, "dir 0755"), (("dir", 0), "dir 0000")))
-    yield from (mark_line(at("/l", ("link", b"../x")), path, wanted) for path, wanted in (("/l", "link ../x"), ("/l/x", "nothing")))
-    yield from (mark_line(at("/d", D), "/e", "nothing"), mark_line({}, "/", "dir 0755"))
-    one = at("/f", node("a"))
-    yield from (mark_line(one, "/f", "failed", words="fail"), matches_line(one, b"/f", rec("a"), "failed", words="fail"))
-    yield call_line("differing", tree_word(one, word), "/f", "a", words="fail"), "failed"
-    stand = each("dir; dir 0700; file x; file y; link x; link y; nothing")
-    recs = each("dir; dir 0700; file x; file x c; file yy; link x; link y", TABLE.record)
-    for one, record in itertools.product(stand, recs):
-        yield matches_line(at("/p", one), b"/p", record, yes_or_no(mark_of(one) == mark_of_record(record)))
-    for one, other in itertools.product(recs, recs):
-        line = "\t".join(["same", record_field(b"/p", one), record_field(b"/q", other)])
-        yield line, yes_or_no(mark_of_record(one) == mark_of_record(other))
-    for one, other in itertools.product(stand, stand):
-        yield call_line("alike", tree_word(at("/p", one, "/q", other), word), "/p", "/q"), yes_or_no(mark_of(one) == mark_of(other))
-    yield "verified\t/a/b", "/a/b 1"
-
-
-def differing_lines():
-    for pair in TABLE.topics["differences"]:
-        one, other = map(data, pair.split())
-        yield call_line("differing", tree_word(at("/f", node(one)), word), "/f", word(other)), str(different_bytes(one, other))
+    """Rows of a call and its arguments, of one on a tree also `fail`; some have their answer."""
+    for row in TABLE.rows("marks"):
+        given, _, wanted = row.partition(" > ")
+        call, *fields = given.split(" | ")
+        words = [fields.pop()] if fields[-1] == "fail" else [] if call in ("mark_file", "same", "verified") else [""]
+        arguments, answer = MARKS[call](*fields)
+        assert wanted in ("", answer), row
+        yield "\t".join([call, *words, *arguments]), "failed" if words == ["fail"] else answer
 
 
 # ---- verifications
-
 
 def verify_line(tree, troves, names=(), known=(), fails=False):
     known = list(map(data, known))
@@ -297,23 +232,7 @@ def verify_row(row):
     return verify_line(tree, troves, more.get("names", "").encode().split(), more.get("known", "").split(), "fail" in more)
 
 
-def verify_lines():
-    yield from map(verify_row, TABLE.rows("verify"))
-    recs = each("dir; file aa; file ab+c c; link a", TABLE.record)
-    nodes = each("nothing; dir; dir 0700; file aa; file 0600 aa; file ba; file abc; file -; link a; link b")
-    for record, one, known in itertools.product(recs, nodes, ([], ["aa"], ["abc"], ["aa", "abc", "-"])):
-        yield verify_line(at("/p", one), lib("/p", record), (), known)
-    yield from map(verify_row, TABLE.rows("verify several"))
-    rng, paths = random.Random(31), [b"/a", b"/a/b", b"/a/c", b"/b"]
-    for _ in range(60):
-        made = random_tree(rng, paths, 0.8, lambda: rng.choice(nodes[1:]))
-        lists = random_troves(rng, recs, paths, 0.6, 0.7)
-        names = [name for name in (b"c:lib", b"a:lib", b"b:lib", b"d:lib") if rng.random() < 0.3]
-        yield verify_line(made, lists, names, rng.choice([[], ["aa"], ["abc", "aa"]]))
-
-
 # ---- write sets
-
 
 def checksum(data):
     """Of the first 4,096 bytes."""
@@ -356,6 +275,9 @@ def targets_rows(topic, options=(), carried=(), far=()):
         yield targets_line([*options, *more], tree, old, fresh, some, others, now)
 
 
+LATE = "edits between the plan and its write set, which a disk that tells nothing may show"
+
+
 def targets_lines():
     for carried, far in itertools.product(([], ["new"], ["newer"], ["x", "new", "y"]), ([], ["new"], ["x", "y"], ["other", "new"])):
         yield from targets_rows("sources", (), carried, far)
@@ -363,54 +285,12 @@ def targets_lines():
         yield from targets_rows("one SHA-1", (), carried, far)
     for words, carried in itertools.product(([], ["far-fails"], ["far-damaged"], ["fail"]), ([], ["new"], ["new", "n"])):
         yield from targets_rows("contents that fail or are damaged", words, carried)
-    # the first missing content, in path order
-    every = troves_of("file a /a; file b /b; file c /c; dir /d; file a /d/a; file - /e")
-    for carried, far in itertools.product(("", "a", "a b", "a b c", "b c -", "a b c -"), ("", "-", "c b")):
-        yield targets_line([], {}, {}, every, carried.split(), far.split())
-    # all kinds, before and after
-    stand = each("nothing; dir; dir 0700; file s; file -; file 0600 s; link a; link b")
-    news = each("nothing; dir; file s; file n; file -; link a", TABLE.record)
-    for one, new, words in itertools.product(stand, news, (["replace"], ["replace", "fail"])):
-        old = lib("/z", rec("z"), "/p", (rec("s") if one != D else RD) if new is None else None)
-        yield targets_line(words, at("/p", one, "/z", node("z")), old, lib("/p", new, "/z", rec("zz")), ["n", "zz"], ["-", "s"])
-    yield from targets_rows("order")
-    # equal old contents, and different ones of one SHA-1
-    for a, b, c in itertools.product((b"o", ONE, OTHER), repeat=3):
-        yield targets_line(["replace"], at("/a", node(a), "/b", node(b), "/c", node(c)), lib("/a", rec(a), "/b", rec(b), "/c", rec(c)), {})
-    yield from targets_rows("collisions")
-    yield from targets_rows("edits between the plan and its write set, which a disk that tells nothing may show")
-    yield from random_targets()
-
-
-def random_targets():
-    """Small trees by chance."""
-    rng, paths, texts = random.Random(32), [b"/a", b"/a-b", b"/a/b", b"/a/c", b"/b"], ["x", "y", "-", ONE, OTHER]
-
-    def some(share):
-        return [text for text in texts if rng.random() < share]
-
-    def choice(directory, of_file, link):
-        return rng.choice([directory, directory, of_file(rng.choice(texts)), of_file(rng.choice(texts), 0o600), link])
-
-    def record_at():
-        return choice(RD, lambda text, mode=0o644: rec(text, "", mode), RLB)
-
-    for _ in range(150):
-        stands = random_tree(rng, paths, 0.8, lambda: choice(D, node, LA))
-        old = {path: record_at() for path in paths if rng.random() < 0.5}
-        fresh = {path: record_at() for path in paths if rng.random() < 0.6}
-        if b"/a/b" in fresh or b"/a/c" in fresh:
-            fresh[b"/a"] = RD
-        carried, far = some(0.5), some(0.6)
-        for given in (carried, far):
-            if ONE in given and OTHER in given:
-                given.remove(rng.choice([ONE, OTHER]))
-        options = ["replace"] + rng.choice([[], [], [], ["fail"], ["far-fails"]])
-        yield targets_line(options, stands, {b"a:lib": old}, {b"a:lib": fresh}, carried, far)
+    for topic in ("missing contents", "order", "equal old contents", "collisions", LATE, "write sets by chance"):
+        yield from targets_rows(topic)
 
 
 def lines():
     yield from itertools.chain(plan_lines("named", [[]]), table_lines(), flag_lines(), plan_lines("shapes", EVERY))
     yield from plan_lines("what both lists record so isn't looked at", [[]])
     yield from plan_lines("calls", [["calls"], ["calls", "replace"]])
-    yield from itertools.chain(random_lines(700), mark_lines(), differing_lines(), verify_lines(), targets_lines())
+    yield from itertools.chain(plan_lines("plans by chance", [[]]), mark_lines(), map(verify_row, TABLE.rows("verify")), targets_lines())

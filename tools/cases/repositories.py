@@ -1,8 +1,6 @@
-"""Cases of repositories for command_lines: what is loaded of a tree, how many troves each commit has, contents, the change set between
-troves, and change sets committed one after another (tools/cases/commits.py). The first argument of each call is the tree of a repository;
-the answers are those of tools/model/repository.py.
-"""
-import itertools
+"""Cases of repositories for command_lines: what is loaded of a tree, how many troves each commit has, contents, the change set between troves, and
+change sets committed one after another (tools/cases/commits.py). The first argument of each call is the tree of a repository; the answers are those
+of tools/model/repository.py."""
 from hashlib import sha1
 
 from tools.cases import samples
@@ -15,7 +13,6 @@ from tools.model.streams import ChangeSet, id_text, item, read_set, regular, set
 from tools.model.trees import DIR, Damaged, Failed, Refused, Tree
 
 # ---- repositories
-
 
 def component(name, revision, files):
     return samples.component(name, revision, [(path, plain(text)) for path, text in files])
@@ -67,8 +64,7 @@ def trees():
         text = TREE[path][2]
         cuts, places = (1, 7, 8, 12, 13, len(text) // 2, len(text) - 5, len(text) - 1), (0, 8, 9, 14, len(text) - 5, len(text) - 1)
         texts = [b"", MAGIC, MAGIC + item(0x4F, b""), *(text[:cut] for cut in cuts), *(changed(text, at) for at in places), text + b"\0"]
-        for node in (None, DIR, LINK, *map(file, texts), file(text + item(0x4F, b""))):
-            yield with_node(TREE, path, node)
+        yield from (with_node(TREE, path, node) for node in (None, DIR, LINK, *map(file, texts), file(text + item(0x4F, b""))))
     # An id twice, in one commit and in two; paths that no trove may record; a reference to no trove, before which a file counts that isn't
     # in its grammar.
     yield from trees_of("cross-checks")
@@ -100,20 +96,10 @@ def pairs(topic):
     return [list(map(TABLE.named, fields)) for fields in TABLE.fields(topic)]
 
 
-def lists():
-    """Old and new troves, by rising names, among those of MANY."""
-    yield [], []
-    for trove in (V1, V2, EMPTY, PACKAGE, GROUP, OTHER, MODE):
-        yield from (([], [trove]), ([trove], []), ([trove], [trove]))
-    for old, fresh in itertools.product((V1, V2, MOVED, MODE), repeat=2):
-        yield from (([old], [fresh]), ([EMPTY, old], [fresh, OTHER]))
-    yield from pairs("old and new troves")
-
-
 def sets():
     """Calls of `between`: a tree, the old troves and the new ones."""
     yield from ((WORKED, *two) for two in pairs("over the worked troves"))
-    yield from ((MANY_TREE, *two) for two in lists())
+    yield from ((MANY_TREE, *two) for two in pairs("old and new troves"))
     # A content that is damaged counts only where it is sent.
     for text in (OLD, NEW):
         path = content_at(text)
@@ -215,10 +201,8 @@ def lines():
     """Each line with its answer."""
     sizes = [len(read("between", WORKED, ends)[0]) // 2 for ends in (([], [F2]), ([], [F1]), ([F1], [F2]), ([], []))]
     assert sizes == [169, 168, 207, 13]
-    for call, nodes, words in reading():
-        yield "\t".join([call, tree_term(nodes), *map(argument, words)]), read_answer(call, nodes, words)
+    yield from (("\t".join([call, tree_term(nodes), *map(argument, words)]), read_answer(call, nodes, words)) for call, nodes, words in reading())
     # They take the troves and trees of this file.
     from tools.cases import commits
 
-    for nodes, texts in commits.calls():
-        yield "\t".join(["commit", tree_term(nodes), *map(term, texts)]), commit_answer(nodes, texts)
+    yield from (("\t".join(["commit", tree_term(nodes), *map(term, texts)]), commit_answer(nodes, texts)) for nodes, texts in commits.calls())

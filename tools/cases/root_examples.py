@@ -1,6 +1,5 @@
 """Worked examples of the commands, as lines of command_lines: what each has to answer, and what stands then, is written by hand in
-root_examples.txt or here, and compared with the model's answers wherever a script says these lines.
-"""
+root_examples.txt or here, and compared with the model's answers wherever a script says these lines."""
 import re
 
 from tools.cases import samples, streams
@@ -32,7 +31,10 @@ OWNED = M.replace(b"manifest 1", b"manifest 2").replace(b"0755 ", b"0755 root:ro
 NEWEST, WHOLE, BETWEEN, OWNED_SET = set_bytes([V2], carried(b"abcd")), streams.WHOLE_SET, streams.RELATIVE_SET, streams.OWNED_SET
 BARE = WHOLE.replace(streams.content(b"abc"), b"")
 assert [len(data) for data in (NEWEST, WHOLE, BETWEEN, OWNED_SET, samples.RELATIVE)] == [169, 168, 207, 181, 207]
+ABC = samples.ABC
 TABLE = Rows("root_examples", globals(), samples.TABLE.names)
+MESSAGES = "ASK_ALL REPLY_ALL ASK_REST REPLY_REST ASK_NAME REPLY_NAME REPLY_ZEROS"
+assert [len(data) for data in TABLE.named(MESSAGES)] == [18, 186, 71, 31, 29, 75, 38]
 
 # Names of examples: tools/lines/command_lines.py fails where one of them lacks.
 ROWS = " ".join(TABLE.topics["WANTED"]).split()
@@ -100,7 +102,6 @@ class Examples:
 
 
 # ---- worked examples
-
 
 def table_examples(script):
     for name, rows in TABLE.topics.items():

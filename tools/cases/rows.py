@@ -49,7 +49,7 @@ def choices(text):
 
 def repeated(text):
     """Between backticks a byte stands so many times."""
-    return re.sub(r"`(\d+)\*(.)`", lambda found: int(found[1]) * found[2], text)
+    return re.sub(r"`(\d+)\*(%..|.)`", lambda found: int(found[1]) * found[2], text)
 
 
 def id_of(text):
@@ -84,12 +84,16 @@ def group(name, revision, refs):
     return Trove(Id(name, b"/" + LABEL + b"/" + revision, b""), [], sorted(refs), [], [])
 
 
-def cooked(*manifests):
-    """The nodes of a repository in which these manifests were cooked."""
+def committed(*changes):
+    """The nodes of a repository with these commits."""
     tree = Tree()
-    for data in manifests:
-        repository.commit(tree, repository.load(tree), ChangeSet(*manifest_of(data)))
+    for change in changes:
+        repository.commit(tree, repository.load(tree), change)
     return sorted((path, node) for path, node in tree.nodes.items() if path != b"/")
+
+
+def cooked(*manifests):
+    return committed(*(ChangeSet(*manifest_of(data)) for data in manifests))
 
 
 class Rows:
@@ -181,9 +185,12 @@ class Rows:
 
     def nodes(self, text, made=None):
         """Pairs of a path and the node before it, with `;` between two, or what else is made of its words. A name is that of such pairs, or
-        of their text, and `-/a` leaves that path out. Or the nodes of a repository in which manifests of these names were cooked."""
+        of their text, and `-/a` leaves that path out. Or the nodes of a repository in which manifests of these names were cooked, or troves
+        committed, with ` & ` between two commits."""
         if text.startswith("cooked "):
             return cooked(*self.named(text.removeprefix("cooked ")))
+        if text.startswith("committed "):
+            return committed(*(ChangeSet(self.troves(one), []) for one in text.removeprefix("committed ").split(" & ")))
         made, found = made or self.node, []
         for part in filter(None, map(str.strip, text.split(";"))):
             words, _, path = part.rpartition(" ")

@@ -1,6 +1,7 @@
 """Cases of calls of several lines: batches that end in the middle, of which an output, an input or a disk fails or stops, and the demo."""
 from tools.cases import samples
 from tools.cases.root_examples import Examples
+from tools.cases.rows import Rows
 from tools.cases.samples import COMPONENT, F1, GROUP, LABEL, PACKAGE, SECOND, SET, file
 from tools.model.trees import DIR
 
@@ -21,23 +22,20 @@ def batch(*lines):
 
 COOK, COOK_2 = (b"cook", COMPONENT), (b"cook", SECOND)
 
+CUT, CUT_SET = COMPONENT[:115], SET[:-1]
+TABLE = Rows("several", globals())
+
 # Both disks change, one after the other.
 FIVE = batch(COOK, FOO, COOK_2, FOO, b"rollback")
 
 
 def batch_cases(script):
     """Lines up to the first that doesn't end in status 0: what was written before it stays, and what is behind it isn't run."""
-    for lines in (
-        [], [b"q"], [b"q", b"rq", b"rblist", b"verify"], [COOK], [COOK, COOK, b"q"], [COOK, b"frob", b"rq"], [COOK, b"batch", b"rq"], [COOK, b"demo 1", b"rq"],
-        [COOK, FOO, b"q", b"erase foo:runtime", b"q", b"rollback", b"rollback", b"rollback", b"q"], [b"sync"], [COOK, b"update --resolve foo"],
-        [(b"install", COMPONENT), (b"install", SECOND), b"rblist", b"rollback r.1", b"q"], [(b"install", COMPONENT[:115]), b"q"],
-        [(b"q", b"not read"), (b"rq", b"")], [(b"commit", SET), FOO, b"changeset foo:runtime=" + LABEL, b"verify --full"], [(b"showcs", SET), (b"showcs", SET[:-1]), b"q"],
-        [COOK, COOK_2, b"shadow conary.example.com@ex:stable foo:runtime=" + LABEL, b"rq foo:runtime"], [(b"cook", PACKAGE), COOK, (b"cook", GROUP), b"rq"],
-        [(b"install", COMPONENT), b"localcs foo:runtime", b"q"], [b"update foo", b"q"], [(b"cook --next", COMPONENT), (b"cook --next", COMPONENT), b"rq"],
-    ):  # fmt: skip
-        script.disks().fed(batch(*lines), b"batch")
-        script.run(b"q")
-        script.run(b"rq")
+    for row in ["", *TABLE.topics["batches"]]:
+        lines = (line.partition(" < ") for line in row.split(" & ") if line)
+        given = [(TABLE.bytes(words), TABLE.bytes(data)) if is_fed else TABLE.bytes(words) for words, is_fed, data in lines]
+        script.disks().fed(batch(*given), b"batch")
+        script.runs(b"q", b"rq")
     # No line of what isn't a batch is run.
     for data in (b"q", b"cook\n\n", batch(COOK) + b"q ", batch(COOK)[:-1], batch(COOK)[:-2] + b"x"):
         script.disks().fed(data, b"batch")
@@ -79,10 +77,10 @@ def demo_cases(script):
 def line_cases(script):
     """Lines by themselves: a batch and the demo are no commands of one, and its input is all of what it has."""
     script.disks().input(COMPONENT)
-    for words in (b"batch", b"batch 1", b"demo 3", b"demo", b"frob", b"cook --next --next", b"sync", b"update --resolve foo", b"q", b"cook", b"rq", b"cook"):
-        script.line(*words.split(b" "))
+    for words in TABLE.all_words("lines"):
+        script.line(*words)
     script.line()
-    script.line(*FOO.split(b" ")).input(COMPONENT[:115]).line(b"install").line(b"rollback").line(b"rollback")
+    script.line(*FOO.split(b" ")).input(CUT).line(b"install").line(b"rollback").line(b"rollback")
     script.sinks(1, 0).line(b"rq").sinks(0, 1).line(b"erase", b"bar")
     # The root is looked at before the input, and behind the words.
     script.disks(samples.NO_VAR).input(COMPONENT).line(b"demo", b"3").line(b"cook").line(b"q")

@@ -1,9 +1,7 @@
 """Lines of root_lines on rollback stacks: calls, and what they have to answer.
 
 The answers come from tools/model/stacks.py, a reading of docs/FORMATS.md and docs/MODEL.md by the files of a root; the roots from
-tools/model/root.py, which keeps whole trees and whole lists. What both make of a job is compared. None of them shares anything with the
-program.
-"""
+tools/model/root.py, which keeps whole trees and whole lists. What both make of a job is compared. None of them shares anything with the program."""
 import itertools
 
 from tools.cases.rows import Rows
@@ -20,12 +18,10 @@ from tools.model.relatives import relative_of
 from tools.model.root import PINNED, Root
 from tools.model.runs import PICKS
 from tools.model.stacks import file
-from tools.model.streams import Owner, directory, file_of, id_text
-from tools.model.texts import Id
-from tools.model.trees import DIR, parent_of
+from tools.model.streams import Id, Owner, directory, file_of, id_text
+from tools.model.trees import DIR
 
 # ---- calls
-
 
 def ids_text(name, troves, others=()):
     """The ids of the troves that aren't among the others."""
@@ -126,11 +122,9 @@ EMPTY_ROOTS = [Root(), Root(troves=[FOO]).with_database()]
 
 # ---- jobs
 
-
 def push_lines():
     # What stands at the names is cleared, whatever it is.
-    for start, *steps in TABLE.fields("pushed"):
-        yield push_line(grown(start, *steps[:-1]), *job_of(steps[-1]))
+    yield from (push_line(grown(start, *steps[:-1]), *job_of(steps[-1])) for start, *steps in TABLE.fields("pushed"))
     # The oldest job is dropped: what is cleared is the number two below the oldest that is left.
     names = {BASE: DIR}
     for number in (1, 2, 3, 4_094, 4_095, 4_096, 4_097, 4_098, 4_099):
@@ -142,31 +136,12 @@ def push_lines():
     yield from (read_line("all", root, fails=fails) for root in (INSTALLED, RESTORING) for fails in (1, 2, 3))
 
 
-def edits(root):
-    """Edits of a root, one at a time."""
-    yield root
-    for path in sorted(root.outer.keys() - PINNED.keys()):
-        node = root.outer[path]
-        if not any(parent_of(other) == path for other in root.outer):
-            yield root.edit(path)
-        if node[0] == "file":
-            yield from (root.edit(path, one) for one in (file(node[2], 0o600), file(node[2] + b"!"), ("link", b"elsewhere")))
-        elif node[0] == "dir":
-            yield root.edit(path, ("dir", 0o701))
-            yield from (root.edit(path + last, one) for last, one in ((b"/foreign", file(b"f")), (b"/a", DIR), (b"-other", file(b"f"))))
-
-
 def back_lines():
-    for root in HISTORIES:
-        low, high = root.numbers()
-        for now in edits(root):
-            yield from (read_line("back", now, number) for number in range(low, high + 1))
-        yield from (read_line("back", root, number, fails=fails) for number in sorted({low, high}) for fails in range(1, 7))
-    yield from map(newest_line, EMPTY_ROOTS)
-    yield from (read_line("back", root, number) for root in EMPTY_ROOTS for number in (1, 4_294_967_295))
-    yield from (read_line("back", ERASED, number) for number in (0, 4, 9, 4_294_967_295))
-    dropped = ERASED._replace(jobs=ERASED.jobs[1:]).with_database()
-    yield from (read_line("back", dropped, number) for number in (1, 2))
+    """Rows of a root, edits, the numbers down to which jobs are taken back, and the calls of the disk that fail."""
+    roots = {**TABLE.names, "LISTED": EMPTY_ROOTS[1], "DROPPED": ERASED._replace(jobs=ERASED.jobs[1:]).with_database()}
+    for name, edits, numbers, failing in (row.split(" | ") for row in TABLE.rows("taken back")):
+        root = roots[name].edits(*TABLE.nodes(edits))
+        yield from (read_line("back", root, int(number), fails=int(fails)) for number in numbers.split() for fails in failing.split())
     # Jobs that meet at a path, and edits between them, which count against the first job alone; paths that came and went; an older record
     # that is damaged, and its content, for which the newer job comes first; and a parent that goes, in which a file stood.
     for root in (grown(*history) for history in TABLE.fields("several jobs")):
@@ -174,7 +149,6 @@ def back_lines():
 
 
 # ---- damage
-
 
 def damaged_records():
     """Records of the second job that aren't in the grammar, or fail a cross-check."""
@@ -215,8 +189,7 @@ def damage_lines():
         text = record_bytes(good._replace(entries=[(path, was, mark_of(node))]), 2)
         yield newest_line(root.edit(record_path(2), file(text)).edit(path, node))
     for node in (None, DIR, link_1):
-        yield newest_line(root.edit(record_path(2), node))
-        yield read_line("all", root.edit(record_path(1), node))
+        yield from (newest_line(root.edit(record_path(2), node)), read_line("all", root.edit(record_path(1), node)))
         yield newest_line(root.edit(record_path(1), node))
     for node in TABLE.all_nodes("a damaged saved content"):
         yield from [read_line("all", root.edit(SAVED, node)), newest_line(root.edit(SAVED, node))]

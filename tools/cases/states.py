@@ -1,9 +1,7 @@
 """Lines of root_lines on databases, rollback records, saved contents and jobs that are taken back: calls, and what they have to answer.
 
-The answers come from tools/model/records.py and tools/model/stacks.py, readings of docs/FORMATS.md that share nothing with the program.
-"""
+The answers come from tools/model/records.py and tools/model/stacks.py, readings of docs/FORMATS.md that share nothing with the program."""
 import itertools
-from random import Random
 
 from tools.cases.rows import LABEL, ONE, OTHER as TWO, Rows
 from tools.lines.words import bytes_word, node_word, placed, tree_word
@@ -16,7 +14,7 @@ from tools.model.records import (
 from tools.model.relatives import relative_of
 from tools.model.stacks import file
 from tools.model.streams import NotOfForm, Owner, directory, file_of, id_text, item, link, relative_bytes, trove_bytes, trove_of
-from tools.model.trees import DIR, Damaged, Refused, is_of, parent_of
+from tools.model.trees import DIR, Damaged, Refused
 
 # The directories in which a root has its files.
 FIXED = {path: DIR for path in (b"/", b"/var", b"/var/lib", BASE)}
@@ -104,8 +102,7 @@ def bad():
     # Order and names, then owners.
     later = trove(b"foo:runtime", version=V1.replace(b"1.0", b"1.1"))
     yield from (database_bytes(2, troves, 1, 1) for troves in ([FOO, BAR], [FOO, FOO], [FOO, later]))
-    yield magic + item(NUMBERS, four(1) + four(1)) + item(TROVE, trove_bytes(FOO, True)) + end
-    yield database_bytes(1, [OWNED], 1, 1)
+    yield from (magic + item(NUMBERS, four(1) + four(1)) + item(TROVE, trove_bytes(FOO, True)) + end, database_bytes(1, [OWNED], 1, 1))
     yield magic + item(TROVE, trove_bytes(FOO, False)) + one[-18:]
     yield DATABASE_MAGIC[1] + item(TROVE, trove_bytes(FOO, True)) + one[-18:]
     # Paths that no trove may record, and those that two may not.
@@ -122,12 +119,10 @@ def bad():
 
 def database_lines():
     yield decode_line(BY_HAND_2)
-    for text in (database_bytes(1, [FOO], 1, 1), BY_HAND_2):
-        yield line("encode", bytes_word(text)), BY_HAND_2.hex()
+    yield from ((line("encode", bytes_word(text)), BY_HAND_2.hex()) for text in (database_bytes(1, [FOO], 1, 1), BY_HAND_2))
     # No trove, a component, several, a directory of two troves, a full stack, one that dropped jobs, a name below another one.
     for row in databases("databases"):
-        yield decode_line(database_bytes(*row))
-        yield load_line(file(database_bytes(*row), 0o600))
+        yield from (decode_line(database_bytes(*row)), load_line(file(database_bytes(*row), 0o600)))
     yield decode_line(database_bytes(2, [trove(b"a:b", (b"/var/lib", directory(0o700)))], 1, 1))
     yield from map(load_line, (None, ("dir", 0o600), ("link", b"elsewhere")))
     yield line("load", 1, tree_word(FIXED)), "failed"
@@ -201,8 +196,7 @@ def record_line(kind, text):
 def record_lines():
     texts = [(kind, record_bytes(one, kind), record_bytes(one, 2)) for kind, one in RECORDS]
     for kind, text, again in [*texts, (2, RECORD_BY_HAND, RECORD_BY_HAND)]:
-        yield record_line(kind, text)
-        yield line("rewritten", kind, bytes_word(text)), again.hex()
+        yield from (record_line(kind, text), (line("rewritten", kind, bytes_word(text)), again.hex()))
     yield from (record_line(*one) for one in bad_records())
 
 
@@ -232,14 +226,12 @@ def saved_lines():
     good = {saved_path(number): DIR, place: file(b"abX", 0o600), content_path(number, sha(b"")): file(b"", 0o777)}
     for one in (NOTHING, ("dir", 0), ("dir", 0o7777), target, mark, mark_of(file(b"abX", 0o4755)), mark_of(none), mark_of(file(b"other"))):
         yield from [old_line(good, number, one), old_line({}, 1, one), old_line(good, 1, one)]
-    for node in TABLE.all_nodes("damaged contents"):
-        yield old_line({**good, place: node}, number, mark)
+    yield from (old_line({**good, place: node}, number, mark) for node in TABLE.all_nodes("damaged contents"))
     yield old_line(good, number, ("file", 0o644, 4, sha(b"abX")))
     yield from ((line("old", fails, tree_text(good), number, node_word(mark)), "failed") for fails in (1, 2))
 
 
 # ---- jobs taken back
-
 
 def undo_line(nodes, newest, *jobs, fails=0):
     """The jobs, the newest first, are lists of a path, what the job found there and the fingerprint of what it left."""
@@ -259,41 +251,18 @@ def undo(nodes, newest, jobs):
     return "\t".join(["ok"] + [f"{number} {placed(path, was)}" for path, (number, was) in sorted(found.items())])
 
 
-UNDO_NAMES = [b"/a", b"/a-b", b"/a/x", b"/a/x/y", b"/a.b", b"/a/x-y", b"/ab", b"/ab/x", b"/b", b"/b/x"]
-
-
-def turned(random, tree, count):
-    """The tree with other nodes at some of the names; below what is no directory nothing stands."""
-    tree = dict(tree)
-    for name in random.sample(UNDO_NAMES, count):
-        tree[name] = random.choice([None, None, DIR, DIR, DIR, file(b""), file(b"a"), ("link", b"t")])
-    kept = {}
-    for path in sorted(name for name in tree if tree[name] is not None):
-        if path in FIXED or parent_of(path) == b"/" or is_of(kept.get(parent_of(path)), "dir"):
-            kept[path] = tree[path]
-    return kept
+def change_of(words):
+    """What a job found, and the fingerprint of what it left."""
+    was, now = map(TABLE.node, words.split(" to "))
+    return was, mark_of(now)
 
 
 def undo_lines():
-    random = Random(12)
-    for case in range(120):
-        tree, jobs = turned(random, FIXED, random.randrange(8)), []
-        for _ in range(random.randrange(1, 4)):
-            later = turned(random, tree, random.randrange(1, 6))
-            paths = sorted(path for path in set(tree) | set(later) if tree.get(path) != later.get(path))
-            jobs.insert(0, [(path, tree.get(path), mark_of(later.get(path))) for path in paths])
-            tree = later
-        tree = turned(random, tree, case % 3) if case % 3 else tree
-        if case % 5 == 4 and jobs[-1]:
-            jobs[-1].pop(random.randrange(len(jobs[-1])))
-        yield undo_line(tree, random.choice([len(jobs), 7, 4_294_967_295]), *jobs)
-    # A job takes names away, and then an edit the directories of some of them.
-    pairs = [(b"/a", b"/a/x"), (b"/ab", b"/ab/x"), (b"/b", b"/b/x")]
-    for case in range(16):
-        gone = [low for at, (_, low) in enumerate(pairs) if case & 1 << at or at == 2]
-        tree = {dir_: DIR for at, (dir_, _) in enumerate(pairs) if not (case >> 1) + case & 1 << at}
-        yield undo_line(tree, 1, [(low, ("link", b"t"), NOTHING) for low in gone])
-    yield from (undo_line({b"/a": DIR}, 1, [(b"/a", None, DIR)], fails=fails) for fails in (1, 2))
+    """Rows of nodes, the newest number, the call of the disk that fails, and jobs, the newest first. Most were drawn by chance; in others a job takes
+    names away, and then an edit the directories of some of them."""
+    for nodes, newest, fails, *jobs in TABLE.fields("jobs taken back"):
+        changes = [[(path, *change) for path, change in TABLE.nodes(job, change_of)] for job in jobs]
+        yield undo_line(dict(TABLE.nodes(nodes)), int(newest), *changes, fails=int(fails))
 
 
 def lines():

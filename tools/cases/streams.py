@@ -1,8 +1,7 @@
 """The cases of streams: each a call and its arguments, by topic.
 
-An argument is bytes, a text, or Terms (tools/lines/words.py). Most calls are rows of streams.txt: there `|` stands between two arguments,
-and an argument with quotes is bytes. What a call has to answer is said there of a few calls on items alone.
-"""
+An argument is bytes, a text, or Terms (tools/lines/words.py). Most calls are rows of streams.txt: there `|` stands between two arguments, and an
+argument with quotes is bytes. What a call has to answer is said there of a few calls on items alone."""
 import itertools
 import re
 
@@ -114,8 +113,7 @@ def written_items():
         yield "items", front, Terms(b"p\x33", (b"a", length)), put(0x34, b"b")
         yield from (("items", front, begin(0x33), Terms(b"b", (b"a", length)), end, put(0x34, b"b")) for end in (CLOSE, FAIL))
     for front in (b"", b"x"):
-        yield "items", front, long_step(0x33)
-        yield "items", front, begin(0x30), long_step(0x33), long_step(0x34), CLOSE
+        yield from (("items", front, long_step(0x33)), ("items", front, begin(0x30), long_step(0x33), long_step(0x34), CLOSE))
         yield "items", front, begin(0x30), long_step(0x33), begin(0x31), long_step(0x34), FAIL, CLOSE
     # An item in an item in an item: what is put before and behind each, each of them put or failed.
     inside = [(), (more(b""),), (more(b"x\x00"),), (put(0x35, b"ab"),), (put(0x35, b""), more(b"y"))]
@@ -150,7 +148,6 @@ def read_items():
 
 
 # ---- topics
-
 
 def content(contents):
     return item(0x12, sha(contents) + contents)

@@ -1,38 +1,31 @@
 """Lines of root_lines on jobs on roots: trees in memory with calls, and what comes of each.
 
-A line has what is done, what it shows, the nodes of the root, and calls. `run` makes the calls one after the
-other; `stop` cuts one off after each number of calls of the disk, takes the crash that a number picks, makes the root ready and makes
-the call again; `fail` lets each call of the disk fail in turn; `seen` tells what others read at paths meanwhile. The answers come
-from tools/model/root.py, which shares nothing with the program that is tested. A row is a line of `run`: what it shows, the root, and
-calls. Most rows are those of systems.txt.
-"""
+A line has what is done, what it shows, the nodes of the root, and calls. `run` makes the calls one after the other; `stop` cuts one off after each
+number of calls of the disk, takes the crash that a number picks, makes the root ready and makes the call again; `fail` lets each call of the disk
+fail in turn; `seen` tells what others read at paths meanwhile. The answers come from tools/model/root.py, which shares nothing with the program
+that is tested. A row is a line of `run`: what it shows, the root, and calls. Most rows are those of systems.txt."""
 import itertools
-import random
 
 from tools.cases.jobs import collection, component
-from tools.cases.rows import ONE, OTHER as TWO, Rows, content
+from tools.cases.rows import Rows, content
 from tools.cases.stacks import OLD_DATABASE_2_BY_HAND, OLD_RECORD_2_BY_HAND, OLD_RECORD_BY_HAND
 from tools.lines.system_lines import (
     ROLLBACK, Call, Edit, adopt, damaged, erase, fail_line, rollback, run_line, seen_line, stop_lines, unready_failures, unready_line,
     update, verify,
 )  # fmt: skip
 from tools.lines.words import bytes_word
-from tools.model.lists import name_of
 from tools.model.records import BASE, DATABASE, record_path
 from tools.model.root import Root, cut_off
 from tools.model.runs import PICKS
 from tools.model.stacks import file, in_format_1
-from tools.model.streams import Owner, Trove, directory, file_of, link, trove_bytes
-from tools.model.trees import DIR, is_of, parent_of
+from tools.model.streams import Owner, directory, file_of, trove_bytes
+from tools.model.trees import DIR
 
 TABLE = Rows("systems", data=content)
 
 # ---- troves and roots
 
-D, PRIVATE_DIR = directory(0o755), ("dir", 0o700)
-REPLACE, KEEP, BOTH = ("replace",), ("keep",), ("keep", "replace")
-FOO, RUNTIME = b"/etc/foo", b"foo:runtime"
-CONFIG, INITIAL, TRANSIENT = 1, 2, 4
+REPLACE, FOO, RUNTIME = ("replace",), b"/etc/foo", b"foo:runtime"
 
 
 def trove(name, files=(), revision=b"1.0-1-1", requires=(), **more):
@@ -94,14 +87,13 @@ def system_of(text):
 
 
 def rows(topic):
-    for label, system, *calls in (row.split(" | ") for row in TABLE.rows(topic)):
-        yield label, system_of(system), *map(call_of, calls)
+    yield from ((label, system_of(system), *map(call_of, calls)) for label, system, *calls in (row.split(" | ") for row in TABLE.rows(topic)))
 
 
 SYSTEMS = {"EMPTY": EMPTY}
 for made, text in (row.split(" = ") for row in TABLE.topics["systems"]):
     SYSTEMS[made] = system_of(text)
-INSTALLED, EDITED, STARTED = (SYSTEMS[made] for made in ("INSTALLED", "EDITED", "STARTED"))
+INSTALLED, EDITED = SYSTEMS["INSTALLED"], SYSTEMS["EDITED"]
 M, M2, M3, OTHER = (TROVES[made] for made in ("M", "M2", "M3", "OTHER"))
 WEB = Owner(b"web", b"www")
 for made, data, revision in (("M_OF_WEB", b"abc", b"1.0-1-1"), ("M2_OF_WEB", b"abcd", b"1.0-2-1")):
@@ -112,48 +104,7 @@ INSTALL, UPDATE, ERASE = map(call_of, ("INSTALL", "UPDATE", "ERASE"))
 BACK_TWICE = (ROLLBACK, ROLLBACK)
 
 
-# ---- refusals
-
-
-def drafts(topic, counts, first=0):
-    """So many of the tests of a topic failing at once: their labels, the root, and what each of them gives, by its first word."""
-    tests = []
-    for label, *rest in (row.split(" | ") for row in TABLE.rows(topic)[first:]):
-        given = [one for one in rest if one.startswith(("come", "far", "before", "behind"))]
-        tests.append((label, [call_of(one) for one in rest if one not in given], dict(one.split(" ", 1) for one in given)))
-    for some in (some for count in counts for some in itertools.combinations(tests, count)):
-        calls = (call for _, calls, _ in some for call in calls)
-        yield "+".join(label for label, *_ in some), after(STARTED, *calls), [given for *_, given in some]
-
-
-def job_drafts(first=0):
-    """With the troves that are to come, with each of the tests failing, and with each two of them. A file above the limit isn't among
-    them: each such line costs the SHA-1 of 16 MB."""
-    for label, system, given in drafts("refusals of a job", (0, 1, 2), first):
-        come = [TROVES[name] for one in given for name in one.get("come", "").split()]
-        yield label or "passes", system, [TROVES["OK"], *come], next((one["far"] for one in reversed(given) if "far" in one), [])
-
-
-def refusal_rows():
-    """Each refusal of a job but the two of sizes, and each two of them at once."""
-    for label, system, come, far in job_drafts():
-        yield "update " + label, system, update(come, [b"ok"], far)
-        yield "update replacing " + label, system, update(come, [b"ok"], far, REPLACE)
-    for label, system, come, far in job_drafts(1):
-        troves = {name_of(one): one for one in [*system.troves, *come]}.values()
-        yield "adopt " + label, system, adopt(list(troves), far if isinstance(far, str) else [*far, b"ok"])
-
-
-def erasure_rows():
-    for label, system, given in drafts("refusals of an erasure", (1, 2)):
-        names = []
-        for one in given:
-            names = [*one.get("before", "").encode().split(), *names, *one.get("behind", "").encode().split()]
-        yield "erase " + label, system, erase(names or [b"z:lib"])
-
-
 # ---- more jobs
-
 
 def large_rows():
     """Troves that each provide a thousand names, and so many of them that the database doesn't hold them."""
@@ -165,7 +116,6 @@ def large_rows():
 
 
 # ---- cut off and failing
-
 
 def step_lines():
     for row in TABLE.rows("steps"):
@@ -203,8 +153,7 @@ def fixed_dirs_lines():
             yield unready_line(label, nodes, why, *calls)
             yield from unready_failures(label, nodes, why, calls[0], PICKS)
     # Any mode does.
-    for mode in (PRIVATE_DIR, ("dir", 0o1777)):
-        yield run_line(label, EMPTY.edits((b"/var", mode), (b"/var/lib", mode)), INSTALL, ROLLBACK)
+    yield from (run_line(label, EMPTY.edits((b"/var", mode), (b"/var/lib", mode)), INSTALL, ROLLBACK) for mode in (("dir", 0o700), ("dir", 0o1777)))
 
 
 def migrated_lines():
@@ -257,120 +206,11 @@ def hostile_lines():
     yield run_line("damaged_record", record, made, erase([b"x:lib"]), ROLLBACK)
 
 
-# ---- by chance
-
-PATHS = [b"/a", b"/a-b", b"/a/b", b"/a/c", b"/b", b"/b/a"]
-# The paths that a trove mostly records, so that two of them seldom share one.
-MOSTLY = {b"a:lib": (b"/a", b"/a/b"), b"b:lib": (b"/b", b"/b/a"), b"c:doc": (b"/a-b",), b"c:lib": (b"/a/c", b"/b")}
-TEXTS = [b"x", b"y", b"", b"z", b"w", ONE, TWO]
-
-
-class Drawn(Trove):
-    """A trove that knows the contents of its files."""
-
-    texts = frozenset()
-
-
-class Chance:
-    def __init__(self, seed):
-        self.dice = random.Random(seed)
-        self.one_of, self.is_below = self.dice.choice, lambda part: self.dice.random() < part
-
-    def text(self):
-        return self.one_of(TEXTS if self.is_below(0.3) else TEXTS[:5])
-
-    def record(self):
-        """A record, and the content of a file."""
-        data, flags = self.text(), self.one_of([0, 0, 0, CONFIG, INITIAL, TRANSIENT, CONFIG | INITIAL])
-        files = [file_of(data, flags=flags), file_of(data, flags=flags), file_of(data, 0o600)]
-        return self.one_of([D, D, D, directory(0o700), *files, link(b"a")]), data
-
-    def node(self):
-        data = self.text()
-        return self.one_of([DIR, DIR, PRIVATE_DIR, file(data), file(data), file(data, 0o600), ("link", b"a")])
-
-    def trove(self, name):
-        files = {path: self.record() for path in PATHS if self.is_below(0.7 if path in MOSTLY[name] else 0.04)}
-        for path in list(files):
-            if parent_of(path) != b"/" and self.is_below(0.85):
-                files[parent_of(path)] = D, b""
-        requires = [b"trove: " + self.one_of([b"a:lib", b"b:lib"])] if self.is_below(0.12) else []
-        records = {path: record for path, (record, _) in files.items()}
-        made = Drawn(*trove(name, records, self.one_of([b"1.0-1-1", b"1.0-1-1", b"2.0-1-1"]), requires))
-        made.texts = {data for record, data in files.values() if record.kind == "f"}
-        return made
-
-    def names(self):
-        names = self.dice.sample(list(MOSTLY), self.one_of([1, 1, 2, 3]))
-        return names + names[:1] if self.is_below(0.05) else names
-
-    def group(self):
-        name = self.one_of([b"group-g", b"group-h"])
-        return Drawn(*collection(name, *(trove(name) for name in (b"a:lib", b"b:lib", b"c:lib") if self.is_below(0.5))))
-
-    def options(self):
-        return self.one_of([(), (), (), REPLACE, REPLACE, KEEP, BOTH])
-
-    def texts(self, troves):
-        """Most of the contents that these troves record, of which no two have one SHA-1."""
-        named = set().union(*(one.texts for one in troves))
-        some = [text for text in TEXTS if text in named and self.is_below(0.9)]
-        if ONE in some:
-            some[some.index(ONE)] = self.one_of([ONE, TWO])
-            some = list(dict.fromkeys(some))
-        if TWO in some and ONE in some:
-            some.remove(TWO)
-        return some
-
-    def sources(self, troves):
-        """The contents that are carried, and those that are found elsewhere."""
-        some = self.texts(troves)
-        carried = [text for text in some if self.is_below(0.5)]
-        return carried, [text for text in some if text not in carried or self.is_below(0.1)]
-
-    def edit(self, system):
-        """Another node at a path, or nothing, where a tree is left."""
-        path, outer = self.one_of(PATHS), system.outer
-        node = None if self.is_below(0.3) else self.node()
-        above = parent_of(path)
-        if above != b"/" and not is_of(outer.get(above), "dir"):
-            return None
-        stands_below = any(parent_of(other) == path for other in outer)
-        return None if stands_below and not is_of(node, "dir") else Edit(path, node)
-
-    def call(self, system):
-        pick, names = self.dice.random(), list(map(name_of, system.troves))
-        if pick < 0.45:
-            come = [self.trove(name) for name in self.names()] + ([self.group()] if self.is_below(0.15) else [])
-            return update(come, *self.sources(come), self.options())
-        if pick < 0.55:
-            troves = {name_of(one): one for one in [*map(self.trove, self.names()), *self.dice.sample(system.troves, min(1, len(names)))]}
-            return adopt(list(troves.values()), self.texts(troves.values()), self.options())
-        if pick < 0.7:
-            return erase(self.dice.sample(names, 1) + ([b"absent:lib"] if self.is_below(0.05) else []), self.options()) if names else None
-        return ROLLBACK if pick < 0.85 else self.edit(system)
-
-    def calls(self, system, count):
-        found = []
-        while len(found) < count:
-            call = self.call(system)
-            if call is not None:
-                found.append(call)
-                system = after(system, call)
-        return found, system
-
-
-def random_lines():
-    chance = Chance(20261128)
-    for _ in range(160):
-        _, system = chance.calls(EMPTY, chance.one_of([0, 3, 6, 9]))
-        calls, _ = chance.calls(system, 5)
-        yield run_line("by chance", system, *calls, verify(), verify(far=TEXTS[:6]))
-    for _ in range(5):
-        _, system = chance.calls(EMPTY, 8)
-        call, _ = chance.calls(system, 1)
-        if not isinstance(call[0], Edit):
-            yield from stop_lines("by chance", system, call[0], [chance.one_of([*PICKS, chance.dice.randrange(4**16)])])
+def chance_lines():
+    """Small troves, jobs and edits that were drawn by chance."""
+    yield from (run_line(*row) for row in rows("by chance"))
+    for label, system, call, pick in (row.split(" | ") for row in TABLE.rows("cut off by chance")):
+        yield from stop_lines(label, system_of(system), call_of(call), [int(pick)])
 
 
 # ---- several jobs, and what takes them back
@@ -384,11 +224,11 @@ def several_lines():
 
 
 ROWS = (
-    "worked", "verified", "dropped", "places", refusal_rows, erasure_rows, "erasures", "too large", large_rows, "sources",
+    "worked", "verified", "dropped", "places", "refused jobs", "refused erasures", "erasures", "too large", large_rows, "sources",
     "two contents of one SHA-1", "a mode that changes takes the bytes that stand", "nothing", "kinds that change",
     "several jobs that are taken back at once",
 )
-LINES = (step_lines, half_done_lines, fixed_dirs_lines, migrated_lines, hostile_lines, random_lines, several_lines)
+LINES = (step_lines, half_done_lines, fixed_dirs_lines, migrated_lines, hostile_lines, chance_lines, several_lines)
 
 
 def lines():

@@ -10,7 +10,7 @@ to answer. All answers are those of models that share nothing with the program (
 """
 import sys
 
-from tools.cases import commands, repositories, root_commands, several, syncs
+from tools.cases import commands, histories, mirrors, repositories, root_commands, several, stops, syncs
 from tools.cases.root_examples import EXAMPLES, ROWS, WRONG, is_journals
 from tools.lines.script import Script
 from tools.model.by_files import Job
@@ -22,7 +22,8 @@ from tools.model.trees import DIR
 def said():
     """The script of all cases; each example has to be there, and what it answers has to be what is written with it."""
     script = Script()
-    for table, cases in ((commands.TABLE, commands.CASES), (None, EXAMPLES), (root_commands.TABLE, root_commands.CASES), (None, syncs.CASES), (None, several.CASES)):
+    of_tables = (commands.TABLE, commands.CASES), (None, EXAMPLES), (root_commands.TABLE, root_commands.CASES)
+    for table, cases in (*of_tables, *((None, topic.CASES) for topic in (syncs, several, mirrors, histories, stops))):
         for some in cases:
             # The name of a topic means its steps.
             script.name = some if isinstance(some, str) else some.__name__

@@ -1,19 +1,15 @@
 #!/usr/bin/env python3
-"""Makes the lines of `disk_lines` and the answers that they have to get.
-
-    python3 -m tools.lines.disk_lines stdin   >crates/disk_lines/stdin     a call and its arguments in each line
-    python3 -m tools.lines.disk_lines stdout  >crates/disk_lines/stdout    the answers
-
-The cases are in `cases/disks.py` (a disk in memory and a content store over it), `cases/logs.py` (write sets and their logs) and
-`cases/journals.py` (the journal); the models that answer them are `model/trees.py` and `model/runs.py`. Here is how a line is written.
-"""
+"""The lines of the program disk_lines, and what each has to answer. The cases are in `cases/disks.py` (a disk in memory and a content store over it),
+`cases/logs.py` (write sets and their logs), `cases/journals.py` (the journal) and `cases/packs.py` (manifests of trees); the models that answer them
+are `model/trees.py`, `model/runs.py` and `model/packs.py`. Here is how a line is written."""
 import itertools
 
-from tools.cases import disks, journals, logs
+from tools.cases import disks, journals, logs, packs
 from tools.lines.words import digits, items, node_term, node_word, placed, puts_term, say, shown, standing, term, terms, tree_term
 from tools.model import runs
+from tools.model.packs import packed
 from tools.model.streams import NotOfForm, is_path, rises, sha
-from tools.model.trees import Collision, Disk, Failed, Journal, NotAllowed, Tree, is_of, is_tree, joined
+from tools.model.trees import Collision, Disk, Failed, Journal, NotAllowed, Tree, clear, is_of, is_tree, joined, read_whole
 
 
 def line(call, arguments):
@@ -124,26 +120,27 @@ class Steps:
         elif call == "set_mode":
             more = [int(more[0], 8)]
         elif call == "read":
-            more = list(map(int, more))
+            call, more = "read_at", list(map(int, more))
         answer = self.disk.call(call, path, *more)
         if call == "look":
             return ["ok", f"file {answer[1]:04o} {len(answer[2])}" if is_of(answer, "file") else answer]
         if call == "list":
             return ["ok", *(child.rpartition(b"/")[2] for child in answer)]
-        return ["ok", str(len(answer)), answer.ljust(more[1], b"\xff")] if call == "read" else ["ok"]
+        return ["ok", str(len(answer)), answer.ljust(more[1], b"\xff")] if call == "read_at" else ["ok"]
 
     def any(self, name, path=b"/", *more):
         """The functions over any disk."""
         name = name.decode()
         if name in ("clear", "clear_step"):
-            self.disk.clear(path)
+            clear(self.disk, path)
             return ["ok"]
         if name in ("whole", "whole_step"):
-            data = self.disk.whole(path, int(more[0]))
+            data = read_whole(self.disk, path, most=int(more[0]))
             return ["more"] if data is None else ["ok", data]
         if name in ("make", "write"):
-            self.disk.write(path, int(more[0], 8), more[1], name == "write")
-            return ["ok"]
+            self.disk.append(path, more[1])
+            self.disk.set_mode(path, int(more[0], 8))
+            return self.made("sync") if name == "write" else ["ok"]
         return self.made(name, path, *more, *([b"4"] if name == "read" else []))
 
     def store(self, name, directory, *more):
@@ -151,7 +148,7 @@ class Steps:
         if name == b"find":
             return ["none"]
         if name == b"fill":
-            self.disk.call("append", directory, content_of(*more))
+            self.disk.append(directory, content_of(*more))
             return ["ok"]
         if name in (b"put", b"put_file"):
             content = {"data": content_of(*more[1:])} if name == b"put" else {"source": more[1]}
@@ -197,6 +194,20 @@ def seen_text(nodes, path):
     return "\t".join(placed(path, node) for node in nodes)
 
 
+def texts_word(texts):
+    return items(map(bytes.decode, texts))
+
+
+def deps_word(deps):
+    return texts_word(map(b" ".join, deps))
+
+
+def pack_text(name, version, flavor, config, requires, provides, skip, sink_fails, disk_fails, nodes):
+    below = [(path, node) for path, node in nodes.items() if path != b"/"]
+    written, answer = packed((name, version, flavor, requires, provides), config, skip, sink_fails, disk_fails, below)
+    return shown(written) + "\t" + answer
+
+
 CALLS = {
     "encode": ([puts_term], lambda puts: logs.logged(puts).hex() if rises([path for path, _ in puts]) else "none"),
     "decode": ([term, lambda data: digits(data) if data else ""], decoded),
@@ -213,6 +224,7 @@ CALLS = {
     "see_again": ([tree_term, puts_term, str, str, term], lambda *given: seen_text(runs.seen_in_recovery(*given), given[-1])),
     "crash_in": ([tree_term, puts_term, str, str], crash_text),
     "images": ([tree_term, puts_term, str, str], lambda *given: "\t".join(map(str, runs.images_found(*given).values()))),
+    "pack": ([*3 * [bytes.decode], texts_word, deps_word, deps_word, lambda skip: "skip" * skip, str, str, tree_term], pack_text),
     "cuts": ([tree_term, puts_term, str, items], lambda *given: "\t".join(map(str, journals.checked_cuts(*given)))),
 }
 
@@ -221,10 +233,10 @@ def lines():
     steps = Steps()
     disks.cases(steps)
     yield from steps.lines
-    for call, *given in itertools.chain(logs.cases(), *(cases() for cases in journals.CASES)):
+    for call, *given in itertools.chain(logs.cases(), *(cases() for cases in journals.CASES), packs.cases()):
         written, answer = CALLS[call]
         yield line(call, [write(one) for write, one in zip(written, given, strict=True)]), lambda: answer(*given)
 
 
 if __name__ == "__main__":
-    say(__doc__, lines())
+    say(lines())

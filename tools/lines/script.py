@@ -1,14 +1,15 @@
 """The lines of command_lines that call the program: what is set up, the calls, and what each has to answer by the model of the program.
 
-Of the lines only those of `cut` and `from` depend on how many calls of its disks a command makes.
-"""
+Of the lines only those of `cut` and `from` depend on how many calls of its disks a command makes."""
 import re
 
 from tools.lines.words import puts_term, shown, standing, term, tree_term
 from tools.model import by_files, repository
 from tools.model.program import JOURNAL, Streams
 from tools.model.several import Call
-from tools.model.trees import DIR, Damaged, Refused, Tree
+from tools.model.records import BASE
+from tools.model.texts import FIXED, is_utf8
+from tools.model.trees import DIR, Damaged, Refused, Tree, is_tree
 
 JOURNALS = {"root": JOURNAL, "repo": repository.JOURNAL}
 FAULTS = {"root": 5, "repo": 6}
@@ -16,7 +17,6 @@ WHOLLY_LOST = (2**64 - 1, 0x5555555555555555)
 TEXT, LINES = re.compile(rb"(?!0x|=)[ -~]*"), re.compile(rb"(?!0x)([ -~](?<![+*#])|\n(?!0x))*")
 
 # ---- arguments
-
 
 def argument(data):
     """Bytes as an argument: a short text as it is, lines as terms, others in digits."""
@@ -33,17 +33,9 @@ def words_of(words):
 
 # ---- answers
 
-
-def is_text(data):
-    try:
-        return data.decode() is not None
-    except UnicodeDecodeError:
-        return False
-
-
 def written(stream, data):
     """The lines of an output, each as a field; what isn't lines of text as the bytes of a file."""
-    if data.endswith(b"\n") and is_text(data):
+    if data.endswith(b"\n") and is_utf8(data):
         return "".join(f"\t{stream} {line}" for line in data[:-1].decode().split("\n"))
     return f"\t{stream} {shown(data)}" if data else ""
 
@@ -77,6 +69,23 @@ def recovered(side, tree, pick):
 
 def crashed(trees, side, pick):
     return {name: tree.crash(pick if name == side else 0) for name, tree in trees.items()}
+
+
+# ---- histories
+
+
+def is_others(root, path, node):
+    """Whether others may put this node, or take away what stands: at no path of the program's own, and where a tree is left."""
+    own = path in FIXED or path == BASE or path.startswith(BASE + b"/")
+    return not own and is_tree({other: old for other, old in {**root.nodes, path: node}.items() if old is not None})
+
+
+def event_word(kind, *rest):
+    """An event as an argument: what it is made of, with a `|` between two."""
+    if kind == "edit":
+        return "edit|" + puts_term([rest])
+    *stops, words, data = rest
+    return "|".join([kind, *map(str, stops), argument(data), *map(argument, words)])
 
 
 class Script:
@@ -134,9 +143,40 @@ class Script:
         """A line by itself, with the input as its own."""
         streams = Streams()
         streams.data, streams.out_fails, streams.err_fails = self.streams.data, self.streams.out_fails, self.streams.err_fails
-        made = by_files.Call(words, streams, self.trees["root"], self.trees["repo"])
-        self.say("line", *map(argument, words), answer=str(made.status) + outputs(made) + both(self.trees))
+        self.made = by_files.Call(words, streams, self.trees["root"], self.trees["repo"])
+        self.say("line", *map(argument, words), answer=str(self.made.status) + outputs(self.made) + both(self.trees))
         return self
+
+    # ---- histories
+
+    def called_with(self, words, data):
+        """A call of a history, which has just this input; both outputs take all."""
+        streams = Streams()
+        streams.data = data
+        return Call(words, streams, self.trees["root"], self.trees["repo"])
+
+    def made_event(self, kind, *rest):
+        """An event: `call` with words and an input; `stopped` with the calls of the repository and of the root after which these stop,
+        and the number that picks the crash, before them; or `edit` with a path and a node. Gives the statuses of it, none of an edit."""
+        if kind == "edit":
+            path, node = rest
+            if is_others(self.trees["root"], path, node):
+                self.trees["root"].edit(path, node)
+            return []
+        *stops, words, data = rest
+        if kind == "call":
+            return [self.called_with(words, data).status]
+        for side, calls in zip(("repo", "root"), stops):
+            self.trees[side].left = calls
+        self.called_with(words, data)
+        self.trees = {side: tree.crash(stops[2]) for side, tree in self.trees.items()}
+        return [255]
+
+    def play(self, *events):
+        """A history on the disks that stand: its statuses, and what stands then."""
+        statuses = [status for event in events for status in self.made_event(*event)]
+        self.say("play", *(event_word(*event) for event in events), answer=" ".join(["statuses", *map(str, statuses)]) + both(self.trees))
+        return statuses
 
     def tally(self, status, lines, last, *words):
         """A call of which the status, the number of lines of its output and the last of them are written by hand."""

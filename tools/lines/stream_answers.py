@@ -1,20 +1,18 @@
 """What the calls of the program stream_lines have to answer, by name.
 
-The answers come from tools/model/streams.py, tools/model/relatives.py, tools/model/manifests.py, tools/model/batches.py and tools/model/demo.py, which are
-made from docs/FORMATS.md alone, and the texts of refusals from docs/COMMANDS.md; nothing is shared with the program.
-"""
+The answers come from tools/model/streams.py, tools/model/relatives.py, tools/model/manifests.py, tools/model/batches.py and tools/model/demo.py,
+which are made from docs/FORMATS.md alone, and the texts of refusals from docs/COMMANDS.md; nothing is shared with the program."""
 from functools import partial
 from operator import itemgetter
 
 from tools.cases.rows import table
 from tools.lines.words import yes_or_no
 from tools.model import manifests, relatives, streams
-from tools.model.batches import read_batch
-from tools.model.demo import lines_of
+from tools.model.batches import lines_of, read_batch
 from tools.model.relatives import Refused
 from tools.model.streams import (
     TAGS, Fault, NotOfForm, Owner, Relative, Trove, directory, flag_letters, flags_of_letters, id_bytes, id_of_text, id_text, inner_items,
-    is_owner, item, items, link, need, number, read_dependency, read_file, read_id, read_path, read_record, read_relative, read_set,
+    is_owner, item, items, link, need, number, read_dependency, read_file, read_id, check_path, read_record, read_relative, read_set,
     read_trove, record_bytes, regular, relative_bytes, rises, set_bytes, sha, trove_bytes,
 )
 
@@ -24,7 +22,6 @@ SHOWN, MOST_OF_STREAM, MOST_OF_ITEMS, MOST_OF_TEXT = 8, 400, 500, 1_000
 
 # ---- answers as texts
 
-
 def fields(*texts):
     return "\t".join(texts)
 
@@ -33,12 +30,12 @@ def digest(text):
     return f"{len(text)} {sha(text).hex()}"
 
 
-def short(text, most=MOST_OF_STREAM):
-    return digest(text) if len(text) > most else text.hex()
+def short(text, most=MOST_OF_STREAM, spelled=bytes.hex):
+    return digest(text) if len(text) > most else spelled(text)
 
 
 def on_a_line(text):
-    return digest(text) if len(text) > MOST_OF_TEXT else text.decode().replace("\n", "|")
+    return short(text, MOST_OF_TEXT, lambda text: text.decode().replace("\n", "|"))
 
 
 def written(again, text):
@@ -80,7 +77,6 @@ def relative_text(relative):
 
 # ---- calls on items
 
-
 def written_items(front, *steps):
     """What stands behind the front once items are put, begun and ended. One that is begun holds what comes up to its end;
     where its value failed, nothing of it stands."""
@@ -114,23 +110,18 @@ def next_item(text, at, tags):
 
 # ---- calls on records
 
-
 def with_file_id(record):
     return fields(record_text(record), sha(record_bytes(record)).hex())
 
 
-def made_record(kind, *rest):
-    if kind == b"link":
-        return link(rest[0])
-    mode, owner = int(rest[0], 8), Owner(rest[1], rest[2])
-    need(is_owner(owner))
-    if kind == b"dir":
-        return directory(mode, owner)
-    return regular(mode, flags_of_letters(rest[3].decode()), int(rest[4]), bytes.fromhex(rest[5].decode()), owner)
-
-
-def make_record(*arguments):
-    found = made_record(*arguments)
+def make_record(kind, mode, *rest):
+    owner = rest[:2]
+    need(kind == b"link" or is_owner(owner))
+    if kind == b"file":
+        flags, size, name = rest[2:]
+        found = regular(int(mode, 8), flags_of_letters(flags.decode()), int(size), bytes.fromhex(name.decode()), Owner(*owner))
+    else:
+        found = directory(int(mode, 8), Owner(*owner)) if kind == b"dir" else link(mode)
     return fields(with_file_id(found), record_bytes(found).hex(), record_bytes(found, True).hex())
 
 
@@ -141,7 +132,6 @@ def owner(*words):
 
 # ---- calls on lists
 
-
 first = itemgetter(0)
 # How the elements of a list are read, by what they rise, and how they are shown and spelled.
 LISTS = {
@@ -149,7 +139,7 @@ LISTS = {
     "files_full": (partial(read_file, full=True), first, files_text, partial(streams.file_value, full=True)),
     "refs": (read_id, tuple, refs_text, id_bytes),
     "deps": (read_dependency, bytes, shown, bytes),
-    "paths": (read_path, bytes, shown, bytes),
+    "paths": (check_path, bytes, shown, bytes),
 }
 
 
@@ -186,6 +176,10 @@ def elements(text, tag, read):
     return [read(value) for _, value in found]
 
 
+def all_elements(tags, lists, *readers):
+    return {tag: elements(text, tag, read) for tag, text, read in zip(tags, lists, readers)}
+
+
 def are(name, tag, text):
     read, key, *_ = LISTS[name]
     return yes_or_no(rises([key(one) for one in elements(text, tag, read)]))
@@ -193,16 +187,14 @@ def are(name, tag, text):
 
 # ---- calls on troves and relative troves
 
-
 def both_digests(spell, found):
     """Of the compact and the explicit stream behind a byte."""
     return digest(b"x" + spell(found)), digest(b"x" + spell(found, True))
 
 
 def make_trove(identity, *lists):
-    readers = (read_file, read_id, read_dependency, read_dependency)
-    read = [elements(text, tag, one) for tag, text, one in zip((4, 5, 6, 7), lists, readers)]
-    found = streams.check_trove(Trove(id_of_text(identity), *read))
+    read = all_elements((4, 5, 6, 7), lists, read_file, read_id, read_dependency, read_dependency)
+    found = streams.check_trove(Trove(id_of_text(identity), *read.values()))
     return fields(trove_text(found), *both_digests(trove_bytes, found))
 
 
@@ -212,14 +204,12 @@ def check(text):
 
 
 def make_relative(old, new, *lists):
-    readers = [read_path, read_file, read_id, read_id] + [read_dependency] * 4
-    read = {tag: elements(text, tag, one) for tag, text, one in zip(TAGS, lists, readers)}
+    read = all_elements(TAGS, lists, check_path, read_file, read_id, read_id, *[read_dependency] * 4)
     found = streams.check_relative(Relative(id_of_text(old), id_of_text(new), read))
     return fields(relative_text(found), *both_digests(relative_bytes, found))
 
 
 # ---- calls on change sets
-
 
 def change_set(text):
     found = read_set(text)
@@ -339,20 +329,14 @@ def over_installed(text, change):
 
 # ---- manifests
 
-
 def manifest(text, longest=4_000):
     return manifests.answer(text, longest).decode()
 
 
 # ---- batches
 
-
-def word_text(word):
-    return word.decode() if len(word) <= MOST_OF_STREAM else digest(word)
-
-
 def line_text(words, given):
-    told = ["; " + str(len(words)), *("|" + word_text(word) for word in words[:SHOWN])]
+    told = ["; " + str(len(words)), *("|" + short(word, spelled=bytes.decode) for word in words[:SHOWN])]
     return "".join(told) + (" < " + short(given) if given else "")
 
 

@@ -1,13 +1,6 @@
 #!/usr/bin/env python3
-"""Makes the lines of the program stream_lines: calls on streams, relative troves, change sets and manifests, and what they have to
-answer. Usage, at the top:
-
-    python3 -m tools.lines.stream_lines stdin   >crates/stream_lines/stdin     a call and its arguments in each line
-    python3 -m tools.lines.stream_lines stdout  >crates/stream_lines/stdout    what each has to answer
-
-The calls are those of tools/cases/streams.py, tools/cases/relatives.py, tools/cases/manifests.py and tools/cases/batches.py;
-tools/lines/stream_answers.py says what each has to answer.
-"""
+"""The lines of the program stream_lines: calls on streams, relative troves, change sets, manifests and batches, of the files of tools/cases/ of these
+names; tools/lines/stream_answers.py says what each has to answer."""
 import re
 import sys
 
@@ -44,4 +37,4 @@ def lines():
 
 
 if __name__ == "__main__":
-    say(__doc__, lines())
+    say(lines())

@@ -6,8 +6,7 @@ from tools.lines.words import bytes_word, placed, tree_word
 from tools.model.lists import by_name
 from tools.model.records import sha
 from tools.model.runs import JOURNAL, changes
-from tools.model.streams import trove_bytes
-from tools.model.texts import Refused
+from tools.model.streams import Refused, trove_bytes
 from tools.model.trees import DIR, is_of, is_tree
 
 
@@ -156,5 +155,4 @@ def unready_failures(label, nodes, why, call, picks):
     """The same where a call of the disk fails, and where the call is cut off."""
     text = f"{why}, {name_of(nodes)}, again {why}"
     yield line_of("fail", label, nodes, call.words), f"failed\tfailed, {text}\t{why}, {text}"
-    for pick in picks:
-        yield line_of("stop", label, nodes, str(pick), call.words), f"stopped\t{text}"
+    yield from ((line_of("stop", label, nodes, str(pick), call.words), f"stopped\t{text}") for pick in picks)

@@ -1,31 +1,24 @@
 #!/usr/bin/env python3
-"""Prints the calls that the program text_lines is run on, or the answers that it has to give.
+"""The calls that the program text_lines is run on, and the answers that it has to give.
 
-Usage, at the top: python3 -m tools.lines.text_lines stdin >crates/text_lines/stdin
-                   python3 -m tools.lines.text_lines stdout >crates/text_lines/stdout
-
-A line of the calls is the name of a call and its arguments, with a tab before each: a text, or `0x` and the hexadecimal digits of its
-bytes. A line of the answers is the answer to the call of its number. The answers come from tools/model/texts.py, which is made from
-docs/FORMATS.md alone; nothing is shared with the program that is tested. The calls are those of tools/cases/texts.py, whose worked ones
-have their answers written out, then those on the texts that commands write, of tools/cases/reports.py, and those on the lowest
-libraries, of tools/cases/low.py.
-"""
+A line of the calls is the name of a call and its arguments, with a tab before each: a text, or `0x` and the hexadecimal digits of its bytes. A line
+of the answers is the answer to the call of its number. The answers come from tools/model/texts.py, which is made from docs/FORMATS.md alone. The
+calls are those of tools/cases/texts.py, whose worked ones have their answers written out, then those on the texts that commands write, of
+tools/cases/reports.py, and on the lowest libraries."""
 import itertools
 import sys
 from functools import partial
 
-from tools.cases.low import low_lines
-from tools.cases.reports import report_lines
+from tools.cases.reports import low_lines, report_lines
 from tools.cases.texts import further_calls, worked_cases
 from tools.lines.words import say
 from tools.model.texts import (
-    CLASSES, FIXED, SENSES, NotOfForm, Version, branch_of, check_path, check_target, count_text, dep_of, dep_text, flavor_of, flavor_text,
+    CLASSES, FIXED, SENSES, NotOfForm, branch_of, check_path, check_target, count_text, dep_of, dep_text, flavor_of, flavor_text,
     id_bytes, id_of_text, id_text, is_forbidden, is_reserved, is_utf8, is_word, label_of, label_text, matches, name_kind, need, next_answer,
     satisfies, score, shadow_of, str_field, take_id, take_str, version_of, whole_dep_of, whole_flavor_of,
 )
 
 # ---- what each call answers: the fields of its answer, from the bytes of its arguments
-
 
 def truth(holds):
     return b"yes" if holds else b"no"
@@ -62,14 +55,9 @@ def byte_reader(check):
     return reader(parts)
 
 
-def checked(text, check):
-    check(text)
-    return text
-
-
 def path_parts(text):
     """The path, its last name, the path above it (twice; `/` has none), whether it is reserved, and whether it is fixed."""
-    above, last = checked(text, check_path).rsplit(b"/", 1)
+    above, last = check_path(text).rsplit(b"/", 1)
     return [text, last, above or b"/", b"none" if text == b"/" else above or b"/", truth(is_reserved(text)), truth(text in FIXED)]
 
 
@@ -110,11 +98,6 @@ def next_id(data, at):
     return [id_text(identity), b"%d" % (len(data) - len(behind))]
 
 
-def id_parts(text):
-    identity = id_of_text(text)
-    return [id_text(identity), *identity, (b"\xfe\x00" + id_bytes(identity)).hex().encode()]
-
-
 version_at = partial(version_of, whole=False)
 
 
@@ -128,16 +111,6 @@ def made(version):
     return [b"too large: version %d" % size] if size > 512 else [b"ok", *version_parts(version)]
 
 
-def revised(text, other):
-    version = version_at(text)
-    return made(Version(version.branch, version.label, version.depth, version_at(other).revision))
-
-
-def next_after(wanted, latest):
-    latest = version_at(latest)
-    return next_answer(version_at(wanted).revision, latest.depth, latest.revision)
-
-
 def flavor_parts(flavor):
     def listed(flags):
         return b"".join(SENSES[sense] + b" " + word + b";" for word, sense in flags)
@@ -145,11 +118,6 @@ def flavor_parts(flavor):
     flags, sets = flavor
     text = flavor_text(flavor)
     return [text, listed(flags), b"".join(word + b"{" + listed(own) + b"}" for word, own in sets), text]
-
-
-def scored(trove, system):
-    worth = score(flavor_of(trove), flavor_of(system))
-    return [b"none"] if worth is None else [b"ok", b"%d" % worth]
 
 
 def dep_parts(dep):
@@ -169,8 +137,8 @@ ANSWERS = {
     "forbidden": lambda path: [truth(is_reserved(path)), truth(is_forbidden(path, False))],
     # What stands behind the last slash of a text, and before it; `/` where nothing does.
     "ends": lambda text: [b"ok", text.rpartition(b"/")[2], text.rpartition(b"/")[0] or b"/"],
-    "join": reader(lambda path, last: [checked(path.rstrip(b"/") + b"/" + last, check_path)]),
-    "target": reader(lambda text: [checked(text, check_target)]),
+    "join": reader(lambda path, last: [check_path(path.rstrip(b"/") + b"/" + last)]),
+    "target": reader(lambda text: [check_target(text)]),
     "mode": mode,
     "mode_of_bits": lambda bits: mode_of_bits(int(bits)),
     "number": lambda text: [b"ok", text] if matches(rb"0|[1-9][0-9]{0,18}", text) else [b"none"],
@@ -193,28 +161,27 @@ ANSWERS = {
     "version_equality": lambda first, second: equality(version_at(first).text, version_at(second).text),
     "shadow": lambda text, label: made(shadow_of(version_at(text), label)),
     "branch": lambda text, label: made(branch_of(version_at(text), label)),
-    "revise": revised,
-    "next": next_after,
+    "revise": lambda text, other: made(version_at(text).revised(version_at(other).revision)),
+    "next": lambda wanted, latest: next_answer(version_at(wanted).revision, version_at(latest).depth, version_at(latest).revision),
     "first": lambda wanted, depth: next_answer(version_at(wanted).revision, int(depth), None),
     "flavor": reader(lambda text: flavor_parts(flavor_of(text))),
     "whole_flavor": reader(lambda text: flavor_parts(whole_flavor_of(text))),
     "empty_flavor": lambda: [b"ok", b"", b"", b"", b""],
     "flavor_equality": lambda first, second: equality(flavor_of(first), flavor_of(second)),
-    "score": scored,
+    "score": lambda trove, system: [b"none"] if (worth := score(flavor_of(trove), flavor_of(system))) is None else [b"ok", b"%d" % worth],
     "dep": reader(lambda text: dep_parts(dep_of(text))),
     "whole_dep": reader(lambda text: dep_parts(whole_dep_of(text))),
     "of_trove": lambda name: [b"ok", *dep_parts((b"trove", name, []))],
     "class": lambda word: [b"ok", word] if word in CLASSES else [b"none"],
     "satisfies": lambda provide, require: [truth(satisfies(dep_of(provide), dep_of(require)))],
     "dep_order": lambda first, second: order(dep_text(dep_of(first)), dep_text(dep_of(second))),
-    "id": reader(id_parts),
+    "id": reader(lambda text: [id_text(id_of_text(text)), *id_of_text(text), (b"\xfe\x00" + id_bytes(id_of_text(text))).hex().encode()]),
     "next_id": reader(next_id),
     "id_order": lambda first, second: order(id_of_text(first), id_of_text(second)),
 }
 
 
 # ---- the lines
-
 
 def argument(data):
     """As a text, where that can be read in an editor."""
@@ -237,4 +204,4 @@ def text_lines():
 
 
 if __name__ == "__main__":
-    say(__doc__, itertools.chain(text_lines(), report_lines(), low_lines()))
+    say(itertools.chain(text_lines(), report_lines(), low_lines()))

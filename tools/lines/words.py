@@ -1,7 +1,6 @@
 """How values stand in the lines of all programs, and in what these answer: bytes, nodes, fingerprints and trees.
 
-A node is one of tools/model/trees.py, a fingerprint one of tools/model/records.py.
-"""
+A node is one of tools/model/trees.py, a fingerprint one of tools/model/records.py."""
 import hashlib
 import itertools
 import re
@@ -22,7 +21,9 @@ def plain(data):
 
 
 def term(data):
-    """Bytes, of which long runs of one byte are told by their number."""
+    """Bytes, of which long runs of one byte are told by their number, or as they know themselves."""
+    if isinstance(data, Spelled):
+        return data.term
     runs = [(byte, len(list(run))) for byte, run in itertools.groupby(data)] if len(data) > 64 else []
     if not 0 < len(runs) <= 64:
         return plain(data)
@@ -104,9 +105,7 @@ def spelled(text):
 
 def word(data):
     """Bytes as a text where that is one, or in digits."""
-    if isinstance(data, Spelled):
-        return data.term
-    return data.decode() if data.isalnum() and data.isascii() else digits(data)
+    return data.term if isinstance(data, Spelled) else data.decode() if data.isalnum() and data.isascii() else digits(data)
 
 
 def rows_of(table, topic):
@@ -170,10 +169,10 @@ def tree_term(nodes):
     return puts_term(sorted(item for item in nodes.items() if item[0] != b"/"))
 
 
-def say(usage, lines):
-    """Writes the calls or the answers, as the words of the program ask: `stdin` or `stdout`. What takes long is made where it is asked."""
+def say(lines):
+    """Writes the calls or the answers, as the word of the program asks. What takes long is made where it is asked."""
     if sys.argv[1:] not in (["stdin"], ["stdout"]):
-        sys.exit(usage)
+        sys.exit("Usage, at the top: python3 -m tools.lines.NAME stdin >crates/NAME/stdin, and stdout >crates/NAME/stdout")
     part = ["stdin", "stdout"].index(sys.argv[1])
     for line in lines:
         text = line[part]() if callable(line[part]) else line[part]

@@ -6,17 +6,17 @@ the root a command makes, and in which order, is told here, for the lines `from`
 """
 import re
 
-from tools.model import completion, lists, plans, program, repository, stacks
+from tools.model import completion, lists, mirrors, plans, program, repository, stacks
 from tools.model.local_changes import LONGEST, local_changes, local_id, reached
 from tools.model.program import JOURNAL, Ended, is_spec, manifest_of
 from tools.model.records import (
-    BASE, DATABASE, DATABASE_MAGIC, EMPTY, GREATEST_NUMBER, MOST_JOBS, NOTHING, Db, by_name, content_path, database_bytes, mark_of, mark_of_record,
+    BASE, DATABASE, DATABASE_MAGIC, EMPTY, GREATEST_NUMBER, MAGIC as RECORD_MAGIC, MOST_JOBS, NOTHING, Db, by_name, content_path, database_bytes, mark_of, mark_of_record,
     read_database, record_bytes, record_of, record_path, saved_path,
 )
 from tools.model.relatives import all_made, check_allowed
 from tools.model.reports import change_lines, finding_line, id_lines, note_text, or_nothing, trove_text
 from tools.model.streams import NotOfForm, different_bytes, is_label, is_name, read_set, set_text, sha
-from tools.model.trees import Damaged, Refused, clear, is_of, make_dir, parent_of, read_whole
+from tools.model.trees import Damaged, Refused, clear, is_of, is_read, make_dir, parent_of, read_whole
 
 PIECE, MOST_BYTES = 65_536, stacks.LIMIT[2]
 MODEL, LARGEST_MODEL = b"/etc/conary/system-model", 65_536
@@ -44,7 +44,7 @@ def job_number(word):
 WORDS = {
     b"rq": (0, 1, is_name), b"q": (0, 1, is_name), b"rollback": (0, 1, job_number), b"localcs": (1, 1, is_name),
     b"changeset": (1, 2, is_spec), b"erase": (1, MOST_NAMES, is_name), b"verify": (0, MOST_NAMES, is_name),
-    b"update": (1, MOST_NAMES, is_spec), **dict.fromkeys(b"install cook commit showcs rblist sync".split(), (0, 0, None)),
+    b"update": (1, MOST_NAMES, is_spec), **dict.fromkeys(b"install cook commit serve showcs rblist sync".split(), (0, 0, None)),
 }
 
 
@@ -54,6 +54,8 @@ def are_words_of(command, options, rest):
         return len(rest) == 2 and is_label(rest[0]) and is_spec(rest[1])
     if (command, rest) == (b"update", [b"-"]):
         return RESOLVE not in options
+    if command == b"mirror":
+        return rest in ([b"ask"], [b"take"])
     least, most, is_word = WORDS.get(command, (1, 0, None))
     return least <= len(rest) <= most and all(map(is_word, rest))
 
@@ -75,7 +77,7 @@ def command_of(words):
 
 
 def takes_input(command, rest):
-    return command in program.TAKES_INPUT or (command, rest) == (b"update", [b"-"])
+    return command in program.TAKES_INPUT or (command, rest) in ((b"update", [b"-"]), (b"mirror", [b"take"]))
 
 
 # ---- nodes and files
@@ -91,6 +93,19 @@ def read_file(tree, path, read=read_whole):
     if is_of(node, "file"):
         read(tree, path)
     return node
+
+
+def read_record_file(tree, path, kind=2):
+    """A look at the file of a record in a format, and its bytes, where it is read."""
+    if is_of(tree.look(path), "file") and is_read(tree, path, RECORD_MAGIC[kind], b"\x60\x64\x65\x66\x67\x6f"):
+        read_whole(tree, path)
+
+
+def read_saved(tree, path, size):
+    """A look at a saved content, and its bytes, where there are as many as its fingerprint tells."""
+    node = tree.look(path)
+    if is_of(node, "file") and len(node[2]) == size:
+        read_whole(tree, path)
 
 
 # ---- opening a root that is recovered
@@ -110,7 +125,7 @@ def open_database(tree):
     puts = stacks.migrated(tree.nodes)
     if puts is not None:
         for path in sorted(puts.keys() - {DATABASE}, key=lambda path: -int(path.rpartition(b".")[2])):
-            read_file(tree, path)
+            read_record_file(tree, path, 1)
         write_all(tree, puts)
     node = read_file(tree, DATABASE)
     if node is None:
@@ -234,7 +249,7 @@ def taken_back(tree, db, number):
     if db.newest and db.oldest <= number <= db.newest:
         found, after, marks = {}, db.troves, stacks.marks_of(tree.nodes)
         for one in range(db.newest, number - 1, -1):
-            read_file(tree, record_path(one))
+            read_record_file(tree, record_path(one))
             job = stacks.read_job(tree.nodes, 2, one, after)
             check_undo(tree, {path: was for path, (_, was) in found.items()}, job.changes)
             marks = stacks.undone(marks, job.changes)
@@ -244,7 +259,7 @@ def taken_back(tree, db, number):
             if was == NOTHING:
                 tree.look(path)
             if was[0] == "file":
-                read_file(tree, content_path(one, was[3]))
+                read_saved(tree, content_path(one, was[3]), was[2])
     return stacks.inverse_to(tree.nodes, db, number)
 
 
@@ -275,6 +290,8 @@ class Call(program.Call):
             b"branch": lambda: self.move("branch", *rest),
             b"cook": lambda: self.cook(data, options),
             b"commit": lambda: self.committed(read_set(data)),
+            b"serve": lambda: mirrors.replies(self.repo, self.catalogue, data),
+            b"mirror": lambda: mirrors.ask(self.catalogue) if data is None else self.committed(mirrors.take(data)),
             b"install": lambda: self.install(data, options),
             b"update": lambda: self.update(rest, options) if data is None else self.update_to(data, options),
             b"sync": lambda: self.sync(options),
@@ -336,7 +353,7 @@ class Call(program.Call):
     def jobs(self):
         out, after = b"", self.db.troves
         for number in range(self.db.newest, self.db.oldest - 1, -1) if self.db.newest else ():
-            read_file(self.root, record_path(number))
+            read_record_file(self.root, record_path(number))
             job = stacks.read_job(self.root.nodes, 2, number, after)
             out += note_text(number, len(job.changes), lists.changed(job.before, after))
             after = job.before

@@ -1,13 +1,11 @@
-"""Updates that complete themselves, and system models, by docs/MODEL.md and docs/FORMATS.md alone: each round makes its whole list anew,
-and each line of a model the whole list so far.
-"""
+"""Updates that complete themselves, and system models, by docs/MODEL.md and docs/FORMATS.md alone: each round makes its whole list anew, and each
+line of a model the whole list so far."""
 import re
 
 from tools.model import lists, repository, texts
 from tools.model.texts import NotOfForm, Refused
 
 # ---- updates that complete themselves
-
 
 def offers(trove):
     return [(b"trove", lists.name_of(trove), []), *map(texts.dep_of, trove.provides)]
@@ -39,7 +37,6 @@ def completed(catalogue, installed, roots, config):
 
 
 # ---- system models
-
 
 def said_by(line):
     """A word and what it is done with, a specification or a name."""

@@ -1,6 +1,5 @@
-"""Installed lists, by docs/MODEL.md alone: what an update and an erasure make of one, what changes, and whether a list is closed. What
-goes is found by rounds over the whole list. Troves are those of streams.
-"""
+"""Installed lists, by docs/MODEL.md alone: what an update and an erasure make of one, what changes, and whether a list is closed. What goes is
+found by rounds over the whole list. Troves are those of streams."""
 from tools.model.streams import id_text
 from tools.model.texts import Refused, dep_of, satisfies
 

@@ -1,7 +1,6 @@
 """What docs/FORMATS.md says of manifests: their lines, the troves and contents that they make, and the first fault of any other bytes.
 
-The texts of names, paths, versions, flavors and dependencies are those of tools/model/texts.py, troves those of tools/model/streams.py.
-"""
+The texts of names, paths, versions, flavors and dependencies are those of tools/model/texts.py, troves those of tools/model/streams.py."""
 from tools.model import texts
 from tools.model.streams import (
     FLAGS, LARGEST_CONTENT, ROOT, Owner, Trove, check_trove, directory, flag_letters, is_owner, keep, link, malformed, regular, sha,

@@ -1,8 +1,7 @@
 """What a job does to a tree, by docs/MODEL.md alone: the table of paths, plans, and the tests of their write sets.
 
-A node is None, ("dir", mode), ("file", mode, bytes) or ("link", target), and a tree a dict of them by path; a record is one of a stream;
-the troves of a list are a dict by name, of dicts of records by path.
-"""
+A node is None, ("dir", mode), ("file", mode, bytes) or ("link", target), and a tree a dict of them by path; a record is one of a stream; the troves
+of a list are a dict by name, of dicts of records by path."""
 from tools.model.records import mark_of, mark_of_record
 from tools.model.streams import LARGEST_CONTENT, keep, sha
 from tools.model.texts import FIXED, Refused
@@ -25,9 +24,7 @@ def row(path, old, new, stands, below, options):
     if new is None and was[0] == now[0] == "dir":
         return STAYS if below else GOES
     if new is None:
-        if was == now or has(old, TRANSIENT) or replace:
-            return GOES
-        return STAYS if has(old, INITIAL) else "edited"
+        return GOES if was == now or has(old, TRANSIENT) or replace else STAYS if has(old, INITIAL) else "edited"
     if want[0] == now[0] == "dir" or was == want or has(new, INITIAL) and now[0] == "file" or now == want:
         return STAYS
     if old is None:

@@ -13,7 +13,7 @@ from tools.model.texts import FIXED
 
 CONFIG, LARGEST_CONFIG = b"/etc/conaryrc", 65_536
 LONGEST_WORD, MOST_WORDS, CHUNK = 4096, 1024, 4096
-TAKES_INPUT = (b"install", b"cook", b"commit", b"showcs")
+TAKES_INPUT = (b"install", b"cook", b"commit", b"showcs", b"serve")
 USAGE = b"usage: conary [--disk ROOT REPO] COMMAND [WORD...]\n"
 
 is_spec = texts.of_form(repository.spec_of)

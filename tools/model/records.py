@@ -1,7 +1,6 @@
 """An independent reading of docs/FORMATS.md: databases and rollback records, their grammar and their one spelling in each format.
 
-It shares nothing with the programs that are tested with it. The grammar of troves comes from tools/model/streams.py.
-"""
+It shares nothing with the programs that are tested with it. The grammar of troves comes from tools/model/streams.py."""
 from collections import namedtuple
 
 from tools.model.relatives import relative_of

@@ -8,14 +8,12 @@ from tools.model.relatives import applied, check_allowed, contents_to_send, rela
 from tools.model.streams import (
     ChangeSet, NotOfForm, Relative, difference, forbidden_path, id_text, inner_items, item, items, need, read_trove, sha, trove_bytes,
 )
-from tools.model.trees import Damaged, Journal, Refused, clear, is_of, make_dir, read_whole
+from tools.model.trees import Damaged, Journal, Refused, clear, is_of, is_read, make_dir, read_whole
 
 BASE = b"/conaryrepo"
 CONTENTS = BASE + b"/c"
 JOURNAL = Journal(BASE)
 MAGIC = b"CNYKM01\n"
-# A larger file of a commit is read only where it begins as one.
-LARGE = 1_048_576
 
 
 def commit_path(number):
@@ -45,10 +43,8 @@ def read_troves(tree, number):
         return None
     if not is_of(node, "file"):
         raise Damaged(path)
-    if len(node[2]) > LARGE:
-        tree.read_at(path)
-        if not node[2].startswith(MAGIC):
-            raise Damaged(path)
+    if not is_read(tree, path, MAGIC, b"\x40\x4f"):
+        raise Damaged(path)
     text = read_whole(tree, path)
     try:
         need(text.startswith(MAGIC))

@@ -1,7 +1,6 @@
-"""A model of a root and of jobs on it, made from docs/FORMATS.md and docs/MODEL.md alone: its files, with the whole trees and lists of each
-job kept beside them; the tests of an update, an erasure and a whole new list in their order, what each makes of the tree, the list and the
-stack; the newest jobs taken back; and roots compared with their troves. Nothing is shared with the program.
-"""
+"""A model of a root and of jobs on it, made from docs/FORMATS.md and docs/MODEL.md alone: its files, with the whole trees and lists of each job
+kept beside them; the tests of an update, an erasure and a whole new list in their order, what each makes of the tree, the list and the stack; the
+newest jobs taken back; and roots compared with their troves. Nothing is shared with the program."""
 import itertools
 from collections import namedtuple
 
@@ -12,8 +11,7 @@ from tools.model.records import (
 )  # fmt: skip
 from tools.model.reports import CHANGES, finding_line
 from tools.model.runs import JOURNAL, applied
-from tools.model.streams import id_text, trove_bytes
-from tools.model.texts import Refused
+from tools.model.streams import Refused, id_text, trove_bytes
 from tools.model.trees import DIR, is_of, is_within, parent_of
 
 PINNED = {b"/var": DIR, b"/var/lib": DIR}
@@ -70,8 +68,7 @@ class Root(namedtuple("Root", "outer own troves jobs", defaults=[PINNED, {}, [],
         return {**self.outer, **self.own}
 
     def db_text(self):
-        ids = "".join(" " + id_text(trove.identity).decode() for trove in self.troves)
-        return "%d %d%s" % (*self.numbers(), ids)
+        return "%d %d%s" % (*self.numbers(), "".join(" " + id_text(trove.identity).decode() for trove in self.troves))
 
     # ---- jobs by the tests of their lists and of the tree: the root after each, and what it did
 
@@ -143,8 +140,7 @@ class Root(namedtuple("Root", "outer own troves jobs", defaults=[PINNED, {}, [],
 
 
 def found_at(wanted, node, far):
-    """What a verification finds at a path, by the fingerprint that is recorded: a word, or how many bytes differ; None where it is as
-    recorded."""
+    """What a verification finds at a path, by the fingerprint that is recorded: a word, or how many bytes differ; None where it is as recorded."""
     if node is None:
         return "missing"
     if wanted[0] == node[0] == "dir" or mark_of(node) == wanted:
@@ -158,8 +154,7 @@ def found_at(wanted, node, far):
 
 
 def cut_off(before, after):
-    """The nodes of a root whose journal is half done: a crash left them once the commit flag of the step to another root was set and
-    synced."""
+    """The nodes of a root whose journal is half done: a crash left them once the commit flag of the step to another root was set and synced."""
     late, wanted = (record_path(after.numbers()[1]), DATABASE), after.nodes()
     nodes = {**before.nodes(), **{path: node for path, node in after.own.items() if path not in late}}
     puts = [(path, wanted.get(path)) for path in sorted(nodes.keys() | wanted.keys()) if nodes.get(path) != wanted.get(path)]

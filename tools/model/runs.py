@@ -1,7 +1,6 @@
 """Runs of the journal on trees in memory: cut off, left as a crash may leave them, and recovered; and what is found then.
 
-They are those of tools/model/trees.py, of a journal in one private directory. A number picks the image of a crash.
-"""
+They are those of tools/model/trees.py, of a journal in one private directory. A number picks the image of a crash."""
 import itertools
 
 from tools.model.records import BASE
@@ -9,9 +8,8 @@ from tools.model.trees import Damaged, Failed, Journal, Refused, Tree
 
 JOURNAL = Journal(BASE)
 
-# Numbers that pick crashes. All unsynced names as they read; the first, and each 32nd after it, as at the last sync, and the rest as they
-# read; the first 16, and 16 of each 32 after them, torn, and the rest as they read; and, since each digit of the number is 1, all as at the
-# last sync.
+# Numbers that pick crashes. All unsynced names as they read; the first, and each 32nd after it, as at the last sync, and the rest as they read; the
+# first 16, and 16 of each 32 after them, torn, and the rest as they read; and, since each digit of the number is 1, all as at the last sync.
 PICKS = (0, 1, 4_294_967_295, 0x5555_5555_5555_5555)
 
 # More calls than any of the runs makes.

@@ -1,10 +1,9 @@
 """A model of a whole call, also of one of several lines: a batch, and the demo. Made from docs/COMMANDS.md alone; one command is that of
 model/by_files.py.
 
-The disks are opened once. What is kept of them from line to line, the database and the catalogue, is that of the disks.
-"""
-from tools.model import by_files, demo
-from tools.model.batches import read_batch
+The disks are opened once. What is kept of them from line to line, the database and the catalogue, is that of the disks."""
+from tools.model import by_files
+from tools.model.batches import lines_of, read_batch
 from tools.model.by_files import Db, command_of, takes_input
 from tools.model.program import Ended
 from tools.model.records import DATABASE, EMPTY, read_database
@@ -45,7 +44,7 @@ class Call(by_files.Call):
         if first == [b"demo"]:
             packages, text = package_count(self.words), b""
             self.open()
-            for words, data in demo.lines_of(packages):
+            for words, data in lines_of(packages):
                 text = self.line(words, data)
             return text
         return super().perform()

@@ -1,8 +1,7 @@
-"""Rollback stacks by the files of a root, the second reading of jobs beside tools/model/root.py: each record is read against the list
-after its job, and jobs are taken back by fingerprints. Made from docs/FORMATS.md and docs/MODEL.md alone.
+"""Rollback stacks by the files of a root, the second reading of jobs beside tools/model/root.py: each record is read against the list after its
+job, and jobs are taken back by fingerprints. Made from docs/FORMATS.md and docs/MODEL.md alone.
 
-The files are the nodes of a root by their paths, also those outside the private directory.
-"""
+The files are the nodes of a root by their paths, also those outside the private directory."""
 from collections import namedtuple
 
 from tools.model.records import (

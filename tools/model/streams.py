@@ -1,8 +1,7 @@
-"""File records, troves, relative troves and change sets, each with its grammar and its one stream, and what a reader of change sets
-answers for bytes that are none, by the rules of docs/FORMATS.md alone. The texts in them are those of tools/model/texts.py.
+"""File records, troves, relative troves and change sets, each with its grammar and its one stream, and what a reader of change sets answers for
+bytes that are none, by the rules of docs/FORMATS.md alone. The texts in them are those of tools/model/texts.py.
 
-It shares nothing with the programs that are tested with it.
-"""
+It shares nothing with the programs that are tested with it."""
 import hashlib
 from collections import namedtuple
 
@@ -65,8 +64,7 @@ def items(tag, values):
 def next_item(text, at, tags):
     """The tag of the item at a place, and where its value stands, from and to.
 
-    Another tag than these is at fault where it stands; else the fault of an item that isn't all there is where the bytes end.
-    """
+    Another tag than these is at fault where it stands; else the fault of an item that isn't all there is where the bytes end."""
     if at < len(text) and text[at] not in tags:
         raise FaultAt(at)
     end = at + 5 + number(text[at + 1 : at + 5])
@@ -89,11 +87,6 @@ def read_lists(found, readers):
     tags = [tag for tag, _ in found]
     need(tags == sorted(tags) and all(tag in readers for tag in tags))
     return {tag: [readers[tag](value) for one, value in found if one == tag] for tag in readers}
-
-
-def read_path(text):
-    check_path(text)
-    return text
 
 
 def read_dependency(text):
@@ -261,7 +254,7 @@ def read_relative(text, full=False):
     found = inner_items(text)
     need([tag for tag, _ in found[:2]] == [0x21, 0x22])
     old, new = [read_id(value) for _, value in found[:2]]
-    readers = [read_path, lambda value: read_file(value, full), read_id, read_id] + [read_dependency] * 4
+    readers = [check_path, lambda value: read_file(value, full), read_id, read_id] + [read_dependency] * 4
     return check_relative(Relative(old, new, read_lists(found[2:], dict(zip(TAGS, readers)))))
 
 

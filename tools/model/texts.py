@@ -86,10 +86,12 @@ def check_path(text):
     """`/`, or one or more of `/part`; at most 1,024 bytes."""
     are_parts = all(1 <= len(part) <= 255 and part not in (b".", b"..") for part in text[1:].split(b"/"))
     need(text == b"/" or text.startswith(b"/") and len(text) <= 1024 and are_parts and is_line(text))
+    return text
 
 
 def check_target(text):
     need(1 <= len(text) <= 1024 and is_line(text))
+    return text
 
 
 is_name, is_path, is_target = of_form(name_kind), of_form(check_path), of_form(check_target)
@@ -162,16 +164,15 @@ def count_text(count):
     return b"none" if count is None else b".".join(b"%d" % number for number in count)
 
 
-def revision_text(revision):
-    return b"-".join([revision[0]] + [count_text(count) for count in revision[1:] if count is not None])
-
-
 class Version:
     """Branch text, last label, depth and revision."""
 
     def __init__(self, branch, label, depth, revision):
         self.branch, self.label, self.depth, self.revision = branch, label, depth, revision
-        self.text = branch + b"/" + revision_text(revision)
+        self.text = branch + b"/" + b"-".join([revision[0]] + [count_text(count) for count in revision[1:] if count is not None])
+
+    def revised(self, revision):
+        return Version(self.branch, self.label, self.depth, revision)
 
 
 @cached

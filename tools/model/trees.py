@@ -1,12 +1,11 @@
 """A model of a disk, of a content store and of the journal on it, made from docs/MODEL.md, docs/FORMATS.md and docs/CRASH_SAFETY.md alone.
 
-A tree tells what it reads, what the last sync kept and which names changed since; its calls are numbered, and fail where they
-are listed or once it is stopped. A journal has its files in a private directory, its base. How many calls of a disk a write or
-a recovery makes, and in which order, is told here alone.
+A tree tells what it reads, what the last sync kept and which names changed since; its calls are numbered, and fail where they are listed or once it
+is stopped. A journal has its files in a private directory, its base. How many calls of a disk a write or a recovery makes, and in which order, is
+told here alone.
 
-A node is `("dir", MODE)`, `("file", MODE, BYTES)` or `("link", TARGET)`, in a write set also `("staged", MODE, NUMBER, SIZE, SHA-1)`, a
-file whose bytes stand under a number; None, where nothing stands.
-"""
+A node is `("dir", MODE)`, `("file", MODE, BYTES)` or `("link", TARGET)`, in a write set also `("staged", MODE, NUMBER, SIZE, SHA-1)`, a file whose
+bytes stand under a number; None, where nothing stands."""
 import itertools
 
 from tools.model.streams import (
@@ -110,8 +109,7 @@ class Tree:
         return self.children(path)
 
     def change(self, what, path, node, part=None):
-        """A call that changes what stands at a path. A failed one leaves its name unsynced, and of an append the first
-        half."""
+        """A call that changes what stands at a path. A failed one leaves its name unsynced, and of an append the first half."""
         fails, may_do_part = self.turn(what, path)
         self.unsynced.add(path)
         if not fails:
@@ -149,9 +147,8 @@ class Tree:
         self.settle()
 
     def crash(self, pick):
-        """The image that a number picks: the k-th unsynced name goes by digit k mod 32 in base 4. 0 is as it reads, 1 as at
-        the last sync, 2 nothing, 3 a torn file. `/` and a name above a synced one stay directories, and below what is no
-        directory nothing is left."""
+        """The image that a number picks: the k-th unsynced name goes by digit k mod 32 in base 4. 0 is as it reads, 1 as at the last sync, 2
+        nothing, 3 a torn file. `/` and a name above a synced one stay directories, and below what is no directory nothing is left."""
         image = self.copy()
         for k, name in enumerate(sorted(self.unsynced)):
             digit = pick >> 2 * (k % 32) & 3
@@ -172,12 +169,34 @@ CHUNK = 4096
 PIECE = 65536
 
 
-def read_whole(tree, path, size=CHUNK):
-    """The bytes of a file, in chunks."""
-    node = tree.look(path)
-    for _ in range(0, len(node[2]), size):
+def read_whole(tree, path, size=CHUNK, most=2**64):
+    """The bytes of a file, in chunks; None where they are more."""
+    data = tree.look(path)[2]
+    for _ in range(0, len(data) if len(data) <= most else 0, size):
         tree.read_at(path)
-    return node[2]
+    return data if len(data) <= most else None
+
+
+# A file of more bytes that is to be a stream is read only where the heads of its items lead exactly to its end.
+LARGE = 1_048_576
+
+
+def is_read(tree, path, magic, tags):
+    """Whether a file is read that is to be a stream of this magic and of items with these tags; of a large one the heads are looked at first."""
+    text = tree.nodes[path][2]
+    if len(text) <= LARGE:
+        return True
+    tree.read_at(path)
+    at = len(magic)
+    if not text.startswith(magic):
+        return False
+    while at < len(text):
+        tree.read_at(path)
+        head = text[at : at + 5]
+        at += 5 + int.from_bytes(head[1:], "big")
+        if len(head) < 5 or head[0] not in tags or at > len(text):
+            return False
+    return True
 
 
 def clear(tree, path):
@@ -235,15 +254,15 @@ class Disk(Tree):
             return path != b"/" and here != "nothing" and not self.children(path)
         if call == "rename":
             return path != more[0] and here in ("file", "link") and self.is_dir(parent_of(more[0])) and self.kind(more[0]) != "dir"
-        return here in {"list": ["dir"], "read": ["file"], "set_mode": ["dir", "file"]}.get(call, [here])
+        return here in {"list": ["dir"], "read_at": ["file"], "set_mode": ["dir", "file"]}.get(call, [here])
 
     def call(self, call, path=b"/", *more):
         """What a call answers. One that fails is counted all the same; over any disk one that isn't allowed is a fault too."""
-        changes = call not in ("look", "list", "read")
+        changes = call not in ("look", "list", "read_at")
         try:
             if not self.allows(call, path, *more):
                 raise Failed(self) if self.turn(call, path)[0] else NotAllowed(self)
-            return self.sync() if call == "sync" else getattr(self, "read_at" if call == "read" else call)(path, *more)
+            return super().sync() if call == "sync" else getattr(super(), call)(path, *more)
         except NotAllowed:
             changes = False
             raise
@@ -257,44 +276,21 @@ class Disk(Tree):
     def crash(self, pick):
         return Disk(super().crash(pick).nodes)
 
-    # ---- the functions over any disk
-
-    def clear(self, path):
-        node = self.call("look", path)
-        if is_of(node, "dir"):
-            for child in self.call("list", path):
-                self.clear(child)
-        if node is not None:
-            self.call("remove", path)
-
-    def whole(self, path, most=2**64, chunk=CHUNK):
-        """The bytes of a file, in chunks; None where they are more."""
-        data = self.call("look", path)[2]
-        for _ in range(0, len(data) if len(data) <= most else 0, chunk):
-            self.call("read", path)
-        return data if len(data) <= most else None
-
-    def write(self, path, mode, data, and_sync):
-        self.call("append", path, data)
-        self.call("set_mode", path, mode)
-        if and_sync:
-            self.call("sync")
-
     # ---- a content store
 
     def store_put(self, directory, namer, data=None, source=None):
         """Puts a content by its name where no file stands: a file that has it is moved. Else it is compared with what does, piece by
         piece up to the first that differs."""
-        data = self.whole(source, chunk=PIECE) if data is None else data
+        data = read_whole(self, source, PIECE) if data is None else data
         name = namer(data).hex().encode()
         path = joined(directory, name)
-        node = self.call("look", path)
+        node = self.look(path)
         if not is_of(node, "file"):
-            self.call(*(["append", path, data] if source is None else ["rename", source, path]))
+            self.append(path, data) if source is None else self.rename(source, path)
             return name
         for at in range(0, len(data), PIECE):
             for one in filter(None, (path, source)):
-                self.call("read", one)
+                self.read_at(one)
             if node[2][at:][:PIECE] != data[at:][:PIECE]:
                 break
         if node[2] != data:
@@ -303,13 +299,22 @@ class Disk(Tree):
 
     def store_clear(self, directory, name):
         if len(directory) <= self.LONGEST:
-            self.clear(joined(directory, name))
+            clear(self, joined(directory, name))
 
     def store_has(self, directory, name):
-        return len(directory) <= self.LONGEST and is_of(self.call("look", joined(directory, name)), "file")
+        return len(directory) <= self.LONGEST and is_of(self.look(joined(directory, name)), "file")
 
     def store_get(self, directory, name):
-        return self.whole(joined(directory, name)) if self.store_has(directory, name) else None
+        return read_whole(self, joined(directory, name)) if self.store_has(directory, name) else None
+
+
+def of_disk(name):
+    """A call of a disk, which says whether it is allowed."""
+    return lambda self, *given: self.call(name, *given)
+
+
+for name in ("look", "read_at", "list", "append", "make", "set_mode", "remove", "rename", "sync"):
+    setattr(Disk, name, of_disk(name))
 
 
 class Journal:
@@ -407,8 +412,7 @@ class Journal:
     # ---- a write
 
     def write_staged(self, tree, puts, numbered):
-        """Writes the bytes of each file of the write set to a staged file. Of the files that stand there, those stay that it
-        names."""
+        """Writes the bytes of each file of the write set to a staged file. Of the files that stand there, those stay that it names."""
         make_dir(tree, self.stage)
         kept = {joined(self.stage, name) for name in self.kept(puts)}
         for child in tree.list(self.stage):
@@ -419,8 +423,7 @@ class Journal:
                 tree.append(self.staged_path(want[2]), node[2])
 
     def put_target(self, tree, path, want):
-        """A file is made at the work name, as a copy of its staged bytes, in pieces, of which one without bytes has one, and
-        renamed."""
+        """A file is made at the work name, as a copy of its staged bytes, in pieces, of which one without bytes has one, and renamed."""
         if is_of(want, "staged"):
             for at in range(0, max(want[3], 1), PIECE):
                 tree.append(self.work, tree.read_at(self.staged_path(want[2]), at, PIECE))

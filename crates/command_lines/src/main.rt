@@ -9,6 +9,7 @@ mod between;
 mod commits;
 mod disks;
 mod held;
+mod history;
 mod reading;
 mod setting;
 mod streams;

@@ -1,5 +1,6 @@
 //! What the calls of the program are made over.
 use crate::disks::{Disks, Side};
+use crate::history;
 use crate::streams::Streams;
 use line_words::{Answer, Line, Outcomes};
 use root_words::tree_memory::MemoryTree;
@@ -178,6 +179,7 @@ impl Setting {
         match line.name() {
             "run" => self.run(line, answer),
             "line" => self.line(line, answer),
+            "play" => history::tell(line, &mut self.disks, answer),
             "tally" => self.tally(line, answer),
             "cut" => self.cut(line, answer),
             "stops" => {

@@ -2,9 +2,9 @@
 use crate::disks::{Disks, push_kept};
 use cny_flow::cny_base::{Bytes, Copies, Fails};
 use cny_flow::{FlowFault, MemorySink, MemorySource, Source};
-use conary_cli::cny_batch::{self, Words};
-use conary_cli::{run, run_line};
 use line_words::{Answer, Line, Stop};
+use outcome_laws::conary_cli::cny_batch::{self, Words};
+use outcome_laws::conary_cli::{run, run_line};
 use std::alloc::Global;
 
 /// The standard input, how many bytes a call of it takes at most, and of each stream the number of the call that fails, or 0.

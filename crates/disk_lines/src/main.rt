@@ -1,6 +1,6 @@
-//! Answers calls on a disk in memory, on a content store over it, on write sets and their logs, and on the journal. A line of standard
-//! input is the name of a call and its arguments, a tab before each; the line of standard output with its number is what the call
-//! answers. Input and wanted output come from tools/lines/disk_lines.py, which is made from the rules of docs/ alone.
+//! Answers calls on a disk in memory, on a content store over it, on write sets and their logs, on the journal, and makes manifests of
+//! trees. A line of standard input is the name of a call and its arguments, a tab before each; the line of standard output with its number
+//! is what the call answers. Input and wanted output come from tools/lines/disk_lines.py, which is made from the rules of docs/ alone.
 //!
 //! The calls of a disk and of the content store are steps of a script: each goes on where the one before left the disk. All others stand
 //! for themselves.
@@ -12,6 +12,7 @@ mod found;
 mod journal;
 mod logs;
 mod numbers;
+mod pack;
 mod puts;
 mod runs;
 mod script;
@@ -48,6 +49,7 @@ fn call(disk: &mut Quiet, line: &mut Line, answer: &mut Answer) {
         "crash_in" => cuts::crash_in(line, answer),
         "images" => cuts::images(line, answer),
         "cuts" => cuts::cuts(line, answer),
+        "pack" => pack::pack(line, answer),
         _ => script::call(disk, line, answer),
     }
 }
