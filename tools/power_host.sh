@@ -1,5 +1,5 @@
 #!/bin/sh
-# Kills commands of every kind (tools/kill_host.sh) over directories of the host, each before a call that is picked at random, and then plays
+# Kills commands of every kind over directories of the host, each before a call that is picked at random, and then plays
 # four power failures: what was changed and not synced is by chance as before, as written, or torn. Says whether what stands is then a
 # state to which a command led that had ended well, or was killed since.
 #
@@ -11,13 +11,13 @@
 #
 # What then stands, once a command that changes nothing has recovered both disks, must be a state that the round had: that of the last
 # command that ended well, or one to which a command that was killed since then led. The files of the private directories are compared
-# too. And a further commit and a further job succeed.
+# too. And a further commit and a further job end as the model of tools/model says.
 #
 # Usage: tools/power_host.sh [ROUNDS [SEED]]
-# It needs strace, and is no part of the gate. It ends with status 1 where something is lost, where a command doesn't end as it is to,
+# It needs strace, and is no part of the gate. CONARY may name another program than the proved one of this copy. It ends with status 1 where something is lost, where a command doesn't end as it is to,
 # or where no run was cut off.
 set -eu
 top=$(cd "$(dirname "$0")/.." && pwd)
 . "$top/tools/program.sh"
 choose_program
-exec python3 "$top/tools/host/power_host.py" "$program" "${1:-50}" ${2+"$2"}
+PYTHONPATH=$top exec python3 "$top/tools/host/power_host.py" "$program" "${1:-50}" ${2+"$2"}

@@ -58,6 +58,8 @@ offers "r.2" --disk "$room/root" "$room/repo" rollback r.2
 offers "" --disk "$room/root" "$room/repo" rollback r.1 ""
 offers "" rollback ""
 offers "" rblist ""
+offers "ask take" mirror ""
+offers "" mirror ask ""
 
 told=$(./conary --help | sed -n 's/^  \([a-z]*\).*/\1/p' | sort -u)
 found=$(offered "" | tr ' ' '\n' | grep -v '^--' | sort)

@@ -5,7 +5,8 @@ A case is a line of a program that makes a call; a line that only sets up what t
 
     tools/gate/counts.py              the totals, and a row for each program
     tools/gate/counts.py --calls      and one for each call of a program
-"""
+    tools/gate/counts.py --stops      for docs/TESTED.md, of each command how often it is stopped in the stored lines of command_lines and how often a
+                                      call of a disk fails, in how many lines, and how many edits come between a stop and the recovery"""
 import collections
 import pathlib
 import re
@@ -14,12 +15,34 @@ import sys
 from crates import edits_inside, edits_outside, files_in, text_of
 
 SETS_UP = {"command_lines": {"disks", "root", "repo", "input", "sinks"}}
+COLUMNS = ("stops of the root", "stops of the repository", "failing calls of the root", "failing calls of the repository", "edits behind a stop")
 
 
 def calls_of(path):
     """How many lines a program has of each call."""
-    counts = collections.Counter(line.split("\t")[0] for line in path.read_text(encoding="utf-8").split("\n") if line)
+    counts = collections.Counter(line.split("\t")[0] for line in text_of(path).split("\n") if line)
     return {call: count for call, count in sorted(counts.items()) if call not in SETS_UP.get(path.parent.name, ())}
+
+
+def stops():
+    """The table of stops, failing calls and late edits."""
+    calls, answers = (text_of(f"crates/command_lines/{part}").split("\n") for part in ("stdin", "stdout"))
+    lines, times, cut = collections.Counter(), collections.Counter(), None
+    for at, (call, *words) in enumerate(line.split("\t") for line in calls):
+        command = words[{"stops": 2, "faults": 1, "cut": 3}.get(call, 0) :]
+        command = " ".join(command[: 1 + (command[1:2] in (["-"], ["--resolve"]))])
+        if call in ("stops", "faults"):
+            place = command, 2 * (call == "faults") + (words[0] == "repo")
+            lines[place] += 1
+            # The last number from which on there is another outcome is that of the command as it ends.
+            times[place] += int(answers[at + 1].rsplit(" ", 1)[1])
+        elif call in ("root", "repo") and cut:
+            lines[cut, 4] += 1
+        cut = command if call == "cut" else cut if call in ("root", "repo") else None
+    print(f"| command | {' | '.join(COLUMNS)} |\n|---|---|---|---|---|---|")
+    for command in sorted({command for command, _ in lines}):
+        cells = [f"{times[command, at]:,} in {lines[command, at]}" if at < 4 else str(lines[command, at]) for at in range(5)]
+        print(f"| `{command}` | {' | '.join(cell if lines[command, at] else '' for at, cell in enumerate(cells))} |")
 
 
 def main():
@@ -34,5 +57,4 @@ def main():
     print(f"{inside + outside} edits: {inside} in the gate, {outside} outside it")
 
 
-if __name__ == "__main__":
-    main()
+stops() if "--stops" in sys.argv else main()

@@ -1,14 +1,13 @@
 #!/usr/bin/env python3
 """Says by text alone whether each edit still applies: the must-fail edits, and those of edits/, which the gate doesn't try.
 
-An edit is a wrong body of the crate CRATE, `crates/CRATE/must-fail/NAME.edit` or `edits/CRATE/NAME.edit`. Its crate has to stand in
-`crates.txt`, each file that it changes below the `src/` of that crate, and each old text once in its file, as the changes before it
-left that. Each new text is another one. No two edits of a crate have one name. For each edit of the gate edits_shown.txt names a program
-that shows it (edits_show.py), and for no other; one outside may name its own by a line `by: PROGRAM`.
+An edit is a wrong body of the crate CRATE, `crates/CRATE/must-fail/NAME.edit` or `edits/CRATE/NAME.edit`. Its crate has to stand in `crates.txt`,
+each file that it changes below the `src/` of that crate, and each old text once in its file, as the changes before it left that. Each new text is
+another one. No two edits of a crate have one name. For each edit of the gate edits_shown.txt names a program that shows it (edits_show.py), and for
+no other; one outside may name its own by a line `by: PROGRAM`.
 
-For each that fails a line says why; the last two lines are the counts. It ends with status 1 where one fails, or where the gate has
-more edits or more crates with edits than it may. Usage, at the top of the repository: tools/gate/edits_apply.py
-"""
+For each that fails a line says why; the last two lines are the counts. It ends with status 1 where one fails, or where the gate has more edits or
+more crates with edits than it may. Usage, at the top of the repository: tools/gate/edits_apply.py"""
 import pathlib
 import re
 import sys
@@ -62,8 +61,7 @@ def is_program(name):
 def unshown(names):
     """What is wrong with edits_shown.txt, where the edits of these names stand in the gate."""
     shown = shown_by()
-    for name in sorted(names - shown.keys()):
-        yield f"{SHOWN.name} names no program for {name}"
+    yield from (f"{SHOWN.name} names no program for {name}" for name in sorted(names - shown.keys()))
     for name, (program, _) in shown.items():
         if name not in names:
             yield f"{SHOWN.name}: {name} is no edit of the gate"
@@ -91,5 +89,4 @@ def main():
     sys.exit(1 if faults else 0)
 
 
-if __name__ == "__main__":
-    main()
+main()

@@ -1,10 +1,9 @@
 #!/usr/bin/env python3
 """Two things that no clause of `run` can say, since the objects that it works on don't tell them, and that the form of the code shows.
 
-No call of a disk is made outside its condition: in the product's code above tree_disk each goes through tree_disk::steps, whose functions
-are proved to meet no refusal. And reading the input takes a byte at least in each turn: it is taken in one place, by take_more of
-cli_call, which read_input alone calls, in a loop that ends where nothing was taken.
-"""
+No call of a disk is made outside its condition: in the product's code above tree_disk each goes through tree_disk::steps, whose functions are
+proved to meet no refusal. And reading the input takes a byte at least in each turn: it is taken in one place, by take_more of cli_call, which
+read_input alone calls, in a loop that ends where nothing was taken."""
 import pathlib
 import re
 import sys
@@ -44,5 +43,4 @@ def main():
     return bool(found)
 
 
-if __name__ == "__main__":
-    sys.exit(main())
+sys.exit(main())

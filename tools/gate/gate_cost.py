@@ -196,5 +196,4 @@ def main():
                     print(f"slow: {name}: {scale * seconds:.0f} s")
 
 
-if __name__ == "__main__":
-    main()
+main()

@@ -1,13 +1,12 @@
 #!/usr/bin/env python3
 """Prints the size of the graph of crates.txt: crates, edges, paths, longest chain. Ends with 1 where there are too many paths.
 
-`rt` walks from each crate along each path of crates.txt, so a crate with many ways to the lowest ones makes every command slow, and on
-older kits the gate impossible. An edge is one crate on the line of another, and the kit's crates don't count. A path begins at any crate
-and ends at any crate that is reached; the path that is a crate alone counts too. A chain is counted by its crates.
+`rt` walks from each crate along each path of crates.txt, so a crate with many ways to the lowest ones makes every command slow, and on older kits
+the gate impossible. An edge is one crate on the line of another, and the kit's crates don't count. A path begins at any crate and ends at any crate
+that is reached; the path that is a crate alone counts too. A chain is counted by its crates.
 
     tools/gate/paths.py              the four numbers
-    tools/gate/paths.py --each       and for each crate the paths that begin at it, most first
-"""
+    tools/gate/paths.py --each       and for each crate the paths that begin at it, most first"""
 import sys
 
 from crates import named
@@ -31,5 +30,4 @@ def main(words):
     return int(count > LIMIT)
 
 
-if __name__ == "__main__":
-    sys.exit(main(sys.argv[1:]))
+sys.exit(main(sys.argv[1:]))

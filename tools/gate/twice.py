@@ -1,15 +1,14 @@
 #!/usr/bin/env python3
 """Finds what stands twice: bodies of functions, and blocks of `specs/` and `proofs/`, that are equal but for names.
 
-A body is what stands between the braces of a `fn`, of at least 4 lines. A block is one declaration of a `.antt` file with all its lines,
-`use` lines and comments left out. Two are equal to the letter where their words are, and of one shape where their words are once each
-name is told by the place at which it comes first; keywords, numbers and signs count as they stand. Of each group of equal ones the first
-is the home, and the others are counted. Bodies are also counted without those that a trait asks of each type for itself (`drop`, `copy`,
-`from`, `fmt`): they can't have one home, since the gate takes no macro that writes an `impl`.
+A body is what stands between the braces of a `fn`, of at least 4 lines. A block is one declaration of a `.antt` file with all its lines, `use`
+lines and comments left out. Two are equal to the letter where their words are, and of one shape where their words are once each name is told by the
+place at which it comes first; keywords, numbers and signs count as they stand. Of each group of equal ones the first is the home, and the others
+are counted. Bodies are also counted without those that a trait asks of each type for itself (`drop`, `copy`, `from`, `fmt`): they can't have one
+home, since the gate takes no macro that writes an `impl`.
 
     tools/gate/twice.py              the counts
-    tools/gate/twice.py --list [N]   and the N largest groups (40), with file and line of each
-"""
+    tools/gate/twice.py --list [N]   and the N largest groups (40), with file and line of each"""
 import collections
 import re
 import sys
@@ -92,5 +91,4 @@ def main(words):
     told("blocks of specs and proofs of three lines and more, by shape", [it for it in logic if it[1] >= 3], shape, most)
 
 
-if __name__ == "__main__":
-    main(sys.argv[1:])
+main(sys.argv[1:])

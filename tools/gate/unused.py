@@ -1,13 +1,12 @@
 #!/usr/bin/env python3
-"""Lists what the files of `specs/` and `proofs/` bring in or declare, and nothing uses: names of `use` lines, and declarations; and
-the names of `ghost use` lines of `src/`.
+"""Lists what the files of `specs/` and `proofs/` bring in or declare, and nothing uses: names of `use` lines, and declarations; and the names of
+`ghost use` lines of `src/`.
 
-A name is used where a word of its file says it, elsewhere than where it is declared; a declaration also where another file names it
-in a `use` line, by the module's name, or in the `using` of a tactic. Fields, constructors, answers and invariants are left out. What is
-listed is to be looked at: a name that stands for another in the same file hides that it isn't used.
+A name is used where a word of its file says it, elsewhere than where it is declared; a declaration also where another file names it in a `use`
+line, by the module's name, or in the `using` of a tactic. Fields, constructors, answers and invariants are left out. What is listed is to be looked
+at: a name that stands for another in the same file hides that it isn't used.
 
-    tools/gate/unused.py [CRATE...]    of these crates, or of all
-"""
+    tools/gate/unused.py [CRATE...]    of these crates, or of all"""
 import collections
 import functools
 import os
@@ -110,5 +109,4 @@ def main(crates):
     print(f"{counts[0]} imports and {counts[1]} declarations that nothing uses")
 
 
-if __name__ == "__main__":
-    main(sys.argv[1:])
+main(sys.argv[1:])

@@ -1,13 +1,12 @@
 #!/usr/bin/env python3
 """Makes the walks of documents, and compares what each command prints with what the document says. Ends with 1 where one differs.
 
-A walk is all blocks of a document that begin with `    $ `: each such line is a command, a here-document in it goes up to its last line,
-and what stands behind it is what it prints, on standard output and on standard error. The commands of a document are made in one shell,
-in their order, with the top of the repository as the current directory and a new folder in place of /tmp. The line on standard error by
-which `./conary` says that a program has no proofs is left out.
+A walk is all blocks of a document that begin with `    $ `: each such line is a command, a here-document in it goes up to its last line, and what
+stands behind it is what it prints, on standard output and on standard error. The commands of a document are made in one shell, in their order, with
+the top of the repository as the current directory and a new folder in place of /tmp. The line on standard error by which `./conary` says that a
+program has no proofs is left out.
 
-    tools/gate/walks.py [DOCUMENT...]
-"""
+    tools/gate/walks.py [DOCUMENT...]"""
 import difflib
 import pathlib
 import re
@@ -64,5 +63,4 @@ def main(words):
     return int(bool(found))
 
 
-if __name__ == "__main__":
-    sys.exit(main(sys.argv[1:]))
+sys.exit(main(sys.argv[1:]))

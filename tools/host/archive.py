@@ -3,32 +3,15 @@ import os
 import pathlib
 import random
 import shutil
-import subprocess
 import sys
 import tempfile
 import time
 
-from jobs import node_at
+from packages import made_by
+from rooms import nodes_below
+from tools.model.texts import FIXED, is_reserved
 
 LABEL, MOST_BYTES, MOST_FILES = "archive.example.com@deb:stable", 16_777_216, 400
-PRIVATE = "var/lib/conarydb"
-
-
-def run(words, **more):
-    """What a program writes, and how many seconds it took."""
-    begun = time.monotonic()
-    done = subprocess.run(list(map(str, words)), stdout=subprocess.PIPE, stderr=subprocess.PIPE, **more)
-    if done.returncode:
-        sys.exit(f"{words} ends with status {done.returncode}: {done.stderr.decode()}")
-    return done.stdout, time.monotonic() - begun
-
-
-def nodes_of(folder):
-    found = {}
-    for at, folders, files in os.walk(folder):
-        for name in folders + files:
-            found[os.path.relpath(os.path.join(at, name), folder)] = node_at(os.path.join(at, name))
-    return found
 
 
 def fits(nodes):
@@ -53,8 +36,8 @@ class Tried:
             name = deb.name.split("_")[0]
             if len(self.packages) == count or name in self.packages:
                 continue
-            run(["dpkg", "-x", deb, self.laid / name])
-            nodes = nodes_of(self.laid / name)
+            made_by(["dpkg", "-x", deb, self.laid / name])
+            nodes = nodes_below(self.laid / name)
             own = {path for path, node in nodes.items() if node[0] != "dir"}
             if fits(nodes) and not own & taken:
                 self.packages.append(name)
@@ -67,24 +50,25 @@ class Tried:
         """What is to stand: of a directory in several packages that of the first."""
         found = {}
         for name in reversed(self.packages):
-            found.update(nodes_of(self.laid / name))
-        return found
+            found.update(nodes_below(self.laid / name))
+        return {path: node for path, node in found.items() if path != b"/"}
 
     def cook(self, revision):
         """Cooks all packages and their group by one batch."""
         version, text, begun = f"/{LABEL}/1.0-{revision}-1", b"", time.monotonic()
         for name in self.packages:
-            text += self.line(run([self.writer, "package", name, version, self.laid / name])[0])
+            text += self.line(made_by([self.writer, "package", name, version, self.laid / name])[0])
         made = time.monotonic() - begun
         refs = "".join(f"ref {name}={version}\n" for name in self.packages)
         text += self.line(f"manifest 1\ngroup group-archive\nversion {version}\n{refs}end\n".encode())
-        print(f"revision {revision}: {len(text)} bytes of manifests in {made:.1f} s, cooked in {self.conary('batch', input=text)[1]:.1f} s", flush=True)
+        cooked = self.conary("batch", given=text)[1]
+        print(f"revision {revision}: {len(text)} bytes of manifests in {made:.1f} s, cooked in {cooked:.1f} s", flush=True)
 
     def line(self, manifest):
         return b"cook <%d\n%s\n" % (len(manifest), manifest)
 
     def conary(self, *words, **more):
-        return run([*self.command, *words], **more)
+        return made_by([*self.command, *words], **more)
 
     def change(self):
         """The second revision: of each package one file is longer, one is gone, and one comes."""
@@ -97,13 +81,13 @@ class Tried:
                 files[-1].unlink()
 
     def compare(self, wanted, what, took):
-        found = {path: node for path, node in nodes_of(self.folder / "root").items() if not path.startswith(PRIVATE)}
-        found = {path: node for path, node in found.items() if path in wanted or path not in ("var", "var/lib")}
+        stands = nodes_below(self.folder / "root").items()
+        found = {path: node for path, node in stands if path in wanted or path not in FIXED and not is_reserved(path)}
         differ = sorted(path for path in wanted.keys() | found.keys() if wanted.get(path) != found.get(path))
         verified = self.conary("verify")[0].decode().splitlines()
         print(f"{what} in {took:.1f} s: {len(wanted)} paths, {len(differ)} differ; {verified[-1]}", flush=True)
         if differ or len(verified) > 1:
-            sys.exit("\n".join([*differ[:9], *verified[:9]]))
+            sys.exit("\n".join([*map(os.fsdecode, differ[:9]), *verified[:9]]))
 
 
 def main():

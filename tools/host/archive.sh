@@ -18,4 +18,4 @@ program_crate=conary_manifest
 . "$top/tools/program.sh"
 CONARY=${MANIFEST:-}
 choose_program
-exec python3 "$top/tools/host/archive.py" "$conary" "${1:-50}" "$archive" "$program" ${2:+"$2"}
+PYTHONPATH=$top exec python3 "$top/tools/host/archive.py" "$conary" "${1:-50}" "$archive" "$program" ${2:+"$2"}

@@ -7,7 +7,7 @@ import subprocess
 import sys
 import tempfile
 
-from packages import FILES, RUNS, VERSION, Room, disk, group, make_debs, manifest, median, run, time_dpkg, time_tar
+from packages import FILES, RUNS, Conary, Dpkg, Room, disk, floor_of, manifest, median, medians_of
 
 PROGRAM, LISTED, COMMITS, *PACKAGES = sys.argv[1], *map(int, sys.argv[2:])
 
@@ -53,36 +53,13 @@ def time_cooks(folder):
 
 
 def time_jobs(folder, packages):
-    room, template, debs, tar = Room(PROGRAM, folder / "jobs"), folder / "template", folder / "debs", folder / "files.tar"
-    for revision in (1, 2):
-        for package in range(packages):
-            room.run("cook", given=manifest(package, revision))
-        room.run("cook", given=group(packages, revision))
-    shutil.copytree(room.folder / "repo", template)
-    with_dpkg, times = shutil.which("dpkg") and not os.geteuid(), {}
-    if with_dpkg:
-        make_debs(debs, packages)
-    for _ in range(RUNS):
-        room = Room(PROGRAM, folder / "jobs")
-        shutil.copytree(template, room.folder / "repo", dirs_exist_ok=True)
-        run(["sync", "-f", room.folder])
-        took = {"install": room.run("update", "group-bench=" + VERSION % 1)}
-        if not tar.exists():
-            run(["tar", "-cf", tar, "-C", room.folder / "root", "usr"])
-        took["update"] = room.run("update", "group-bench=" + VERSION % 2)
-        took |= {"verify": room.run("verify"), "rollback": room.run("rollback"), "floor": time_tar(folder / "untarred", tar)}
-        if with_dpkg:
-            took["dpkg"] = time_dpkg(folder / "dpkg", debs)
-        for name, seconds in took.items():
-            times.setdefault(name, []).append(seconds)
-    medians = {name: median(took) for name, took in times.items()}
-    floor = medians.pop("floor")
-    parts = ", ".join(f"{name} {took:.0f} ms ({took / floor:.1f})" for name, took in medians.items())
-    beside = f"dpkg takes {medians['dpkg'] / medians['install']:.1f} times as long as the install" if with_dpkg else "no dpkg here"
+    floor, medians = floor_of(folder, packages), medians_of(Conary(packages, PROGRAM), folder)
+    parts, beside = ", ".join(f"{name} {took:.0f} ms ({took / floor:.1f})" for name, took in medians.items()), "no dpkg here"
+    if shutil.which("dpkg") and not os.geteuid():
+        beside = f"dpkg takes {medians_of(Dpkg(packages, PROGRAM), folder)['install'] / medians['install']:.1f} times as long as the install"
     print(f"{packages} packages, {packages * FILES} files, tar x and sync {floor:.0f} ms: {parts}; {beside}", flush=True)
-    for made in (debs, template):
+    for made in (folder / "template", folder / "dpkg"):
         shutil.rmtree(made, ignore_errors=True)
-    tar.unlink()
 
 
 def peak(folder, size):

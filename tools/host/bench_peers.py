@@ -1,108 +1,14 @@
 """Times jobs of packages of small files, and the same by other programs (see bench/peers.sh)."""
 import gzip
-import hashlib
 import os
 import pathlib
 import shutil
 import sys
 import tempfile
-import time
 
-from packages import FILES, RUNS, VERSION, Room, disk, files_of, fresh, group, manifest, median, run, time_tar
+from packages import FILES, Conary, Dpkg, Packages, disk, floor_of, fresh, lay_out, medians_of, names_of, run, sum_of, timed
 
 PROGRAM, PACKAGES, ASKED = sys.argv[1], int(sys.argv[2]), sys.argv[3:]
-NAMES = [f"bench{package:04}" for package in range(PACKAGES)]
-STEPS = ("install", "update", "verify", "back")
-
-
-def lay_out(folder, package, revision):
-    """Writes the files of a package into a directory."""
-    for path, text in files_of(package, revision).items():
-        os.makedirs(folder / os.path.dirname(path[1:]), exist_ok=True)
-        (folder / path[1:]).write_text(text)
-
-
-def sum_of(name, path):
-    return hashlib.new(name, path.read_bytes()).hexdigest()
-
-
-def timed(words, root):
-    """How many seconds it takes until all is on the disk."""
-    return run(words) + run(["sync", "-f", root])
-
-
-class Conary:
-    """Updates from a repository that has both revisions, verifies, and takes the newest job back."""
-
-    name, needs = "conary", ()
-
-    def make(self, folder):
-        room, self.template = Room(PROGRAM, folder / "jobs"), folder / "template"
-        for revision in (1, 2):
-            for package in range(PACKAGES):
-                room.run("cook", given=manifest(package, revision))
-            room.run("cook", given=group(PACKAGES, revision))
-        shutil.copytree(room.folder / "repo", self.template)
-
-    def begin(self, folder):
-        self.room = Room(PROGRAM, folder / "jobs")
-        shutil.copytree(self.template, self.room.folder / "repo", dirs_exist_ok=True)
-        run(["sync", "-f", folder])
-
-    def step(self, name):
-        words = {"install": ("update", "group-bench=" + VERSION % 1), "update": ("update", "group-bench=" + VERSION % 2)}
-        return self.room.run(*words.get(name, {"verify": ("verify",), "back": ("rollback",)}.get(name)))
-
-
-class Packages:
-    """A program whose packages are files, of each package two."""
-
-    def make(self, folder):
-        self.files = folder / self.name
-        for revision in (1, 2):
-            fresh(self.files / str(revision), ".")
-            for package, name in enumerate(NAMES):
-                lay_out(folder / "laid", package, revision)
-                self.pack(folder / "laid", name, revision)
-                shutil.rmtree(folder / "laid")
-
-    def begin(self, folder):
-        self.root = folder / "root"
-        fresh(self.root, *self.inside)
-        self.set_up()
-
-    def set_up(self):
-        """What a root of the program has at first."""
-
-    def put(self, revision):
-        return timed([*self.command("put"), *sorted((self.files / str(revision)).iterdir())], self.root)
-
-    def step(self, name):
-        if name == "verify":
-            return run(self.command("verify"))
-        return self.put(2 if name == "update" else 1)
-
-
-class Dpkg(Packages):
-    """`dpkg -i` with syncs as it makes them; going back is the old packages once more."""
-
-    name, needs, inside = "dpkg", ("dpkg", "dpkg-deb"), ("var/lib/dpkg/info", "var/lib/dpkg/updates")
-
-    def pack(self, laid, name, revision):
-        os.mkdir(laid / "DEBIAN")
-        control = f"Package: {name}\nVersion: {revision}\nArchitecture: all\nMaintainer: bench\nDescription: bench\n"
-        (laid / "DEBIAN/control").write_text(control)
-        files = sorted(path for path in laid.glob("usr/**/*") if path.is_file())
-        sums = (f"{sum_of('md5', path)}  {path.relative_to(laid)}\n" for path in files)
-        (laid / "DEBIAN/md5sums").write_text("".join(sums))
-        run(["dpkg-deb", "-Znone", "-b", laid, self.files / str(revision) / f"{name}.deb"])
-
-    def set_up(self):
-        (self.root / "var/lib/dpkg/status").touch()
-
-    def command(self, what):
-        how = ["dpkg", "--no-force-unsafe-io", "--force-downgrade", "--force-not-root", f"--root={self.root}", "--log=/dev/null"]
-        return [*how, *{"put": ["-i"], "verify": ["--verify"]}[what]]
 
 
 class Rpm(Packages):
@@ -148,10 +54,9 @@ class Pacman(Packages):
         return [*how, *{"put": ["-U", "--noconfirm", "--noprogressbar"], "verify": ["-Qkk"]}[what]]
 
 
-class Ostree:
+class Ostree(Packages):
     """Checks the whole tree of a commit out, each time into a new directory, by hard links into its repository. What is verified is that
-    repository; going back is the old directory, which still stands.
-    """
+    repository; going back is the old directory, which still stands."""
 
     name, needs = "ostree", ("ostree",)
 
@@ -178,7 +83,7 @@ class Ostree:
         return timed([*how, "checkout", "-H", "--fsync=yes", revision, self.root / revision], self.root)
 
 
-class Nix:
+class Nix(Packages):
     """Adds the directories of packages to a store and makes a profile of symbolic links to them; going back is the profile before."""
 
     name, needs = "nix", ("nix-store", "nix-env")
@@ -186,7 +91,7 @@ class Nix:
     def make(self, folder):
         self.laid = folder / "nix-packages"
         for revision in (1, 2):
-            for package, name in enumerate(NAMES):
+            for package, name in enumerate(names_of(PACKAGES)):
                 lay_out(self.laid / f"{name}-{revision}", package, revision)
 
     def begin(self, folder):
@@ -211,24 +116,12 @@ class Nix:
 
 def main():
     known = [peer for peer in (Conary, Dpkg, Rpm, Pacman, Ostree, Nix) if not ASKED or peer.name in ASKED]
-    peers = [peer() for peer in known if all(map(shutil.which, peer.needs))]
     with tempfile.TemporaryDirectory(prefix="conary-bench-") as name, disk(pathlib.Path(name)) as at:
-        for package in range(PACKAGES):
-            lay_out(at / "laid", package, 1)
-        run(["tar", "-cf", at / "files.tar", "-C", at / "laid", "usr"])
-        shutil.rmtree(at / "laid")
-        floor = median([time_tar(at / "untarred", at / "files.tar") for _ in range(RUNS)])
+        floor = floor_of(at, PACKAGES)
         print(f"{PACKAGES} packages, {PACKAGES * FILES} files; tar x and sync: {floor:.0f} ms", flush=True)
-        for peer in peers:
-            begun = time.monotonic()
-            peer.make(at)
-            made, times = time.monotonic() - begun, {step: [] for step in STEPS}
-            for _ in range(RUNS):
-                peer.begin(at)
-                for step in STEPS:
-                    times[step].append(peer.step(step))
-            medians = ", ".join(f"{step} {median(took):.0f} ms ({median(took) / floor:.1f})" for step, took in times.items())
-            print(f"{peer.name}: {medians}; making both revisions of all packages {made:.0f} s", flush=True)
+        for peer in (peer for peer in known if all(map(shutil.which, peer.needs))):
+            medians = medians_of(peer(PACKAGES, PROGRAM), at)
+            print(f"{peer.name}: {', '.join(f'{step} {took:.0f} ms ({took / floor:.1f})' for step, took in medians.items())}", flush=True)
 
 
 main()

@@ -24,7 +24,7 @@ exit_on_signals
 
 # manifest NAME FILES: a package of so many files, and of links, directories and modes of all kinds.
 manifest() {
-    python3 -c 'import jobs, sys; sys.stdout.buffer.write(jobs.manifest(sys.argv[1], 1, int(sys.argv[2])))' "$@"
+    python3 -c 'import packages, sys; sys.stdout.buffer.write(packages.manifest_at(sys.argv[1], 1, int(sys.argv[2])))' "$@"
 }
 
 # try_to COMMAND...: ends the case where this doesn't work.

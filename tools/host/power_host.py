@@ -8,7 +8,8 @@ import sys
 import tempfile
 import time
 
-from jobs import NAMES, Jobs, agrees, arguments, copy, counted, manifest, new_room, node_at, run, state_of, stored
+from packages import manifest_at
+from rooms import NAMES, Answer, Picked, copy, counted, new_room, node_at, run, state_of
 
 FILES, ROUNDS_IN_A_ROOM, CUTS, TORN = 12, 20, 4, b"\xee" * 3
 CALLS = (
@@ -51,11 +52,11 @@ class Node:
 
 def read_tree(path, old=None, is_kept=False):
     """What stands at a path: the node that was read there, where it has the same kind, or else another one."""
-    kind, mode, data = node_at(path)
-    node = old if old and old.kind == kind else Node(kind, mode, {})
+    kind, *rest = node_at(path)
+    node = old if old and old.kind == kind else Node(kind, 0, {})
     if kind == "dir":
-        data = {name: read_tree(os.path.join(path, name), node.data.get(name), is_kept) for name in os.listdir(path)}
-    node.mode, node.data = mode, data
+        rest.append({name: read_tree(os.path.join(path, name), node.data.get(name), is_kept) for name in os.listdir(path)})
+    node.mode, node.data = rest if kind != "link" else (0, *rest)
     if is_kept:
         node.keep()
     return node
@@ -174,35 +175,47 @@ def recovered(program, room, story):
     status, _, err = run(program, room, ["rblist"])
     if status:
         fail(room, story, f"the next command ends with status {status}: {err}")
-    return stored(room)
+    return state_of(room)
 
 
 def check_after(program, room, possible, number, story):
     """Whether a state that the round had stands behind a power failure, and work goes on from it. Answers which."""
     found = recovered(program, room, story)
-    which = next((at for at, state in enumerate(possible) if agrees(found, state)), None)
+    which = next((at for at, state in enumerate(possible) if state.agrees(found)), None)
     if which is None:
         fail(room, story, "what stands behind a power failure is no state that the round had")
     for words in (["cook"], ["install", "--replace"]):
-        status, _, err = run(program, room, words, manifest(NAMES[0], number, FILES))
-        if status:
-            fail(room, story, f"a further {words[0]} ends with status {status}: {err}")
+        given = manifest_at(NAMES[0], number, FILES)
+        wanted, said = Answer(state_of(room), words, given), run(program, room, words, given)
+        differ = list(wanted.differences(said, state_of(room)))
+        if differ:
+            fail(room, story, f"a further {words[0]}: {differ[:9]}")
     return which
 
 
-def round_of(program, folder, jobs, counts):
+def changing(picked, before):
+    """A command that changes something, by the model, with its input and how it ends."""
+    while True:
+        words, given = picked.command(before)
+        wanted = Answer(before, words, given)
+        picked.note(words, wanted)
+        if wanted.status == 0 and words != ["batch"] and not wanted.state.agrees(before):
+            return words, given, wanted
+
+
+def round_of(program, folder, picked, counts):
     """Commands on a room, some of them killed, and power failures behind them."""
     clean, room, trace, story = folder / "clean", folder / "room", folder / "trace", []
-    jobs.edit(clean)
-    disk, possible = Disk(copy(clean, room)), [stored(clean)]
+    if random.random() < 0.25:
+        picked.edit(clean / "root")
+    disk, possible = Disk(copy(clean, room)), [state_of(clean)]
     for _ in range(random.randint(1, 4)):
-        words, given = jobs.pick(clean)
+        before = state_of(clean)
+        words, given, wanted = changing(picked, before)
         done = copy(clean, folder / "done")
         status, err = run_traced(program, done, words, given, trace)
-        if status > 1:
+        if status:
             fail(done, story, f"{words} ends with status {status}: {err}")
-        if status == 1:
-            continue
         calls = list(calls_in(trace))
         kill_at = random.choice((None, *(random.choice(part) for part in (calls, calls, calls[:60], calls[-50:]))))
         status, err = run_traced(program, room, words, given, trace, kill_at)
@@ -211,34 +224,32 @@ def round_of(program, folder, jobs, counts):
         counts["killed"] += status < 0
         if status > 0:
             fail(room, story, f"a command ends with status {status}: {err}")
-        after = stored(done)
-        possible = [after] if status == 0 else [*possible, after]
-        state = state_of(recovered(program, copy(room, folder / "read"), story), stored(clean), after)
-        if state == "after":
+        possible = [wanted.state] if status == 0 else [*possible, wanted.state]
+        found = recovered(program, copy(room, folder / "read"), story)
+        if wanted.state.agrees(found):
             copy(done, clean)
-        elif status == 0 or state == "neither":
+        elif status == 0 or not before.agrees(found):
             fail(room, story, "what the next command finds is neither the state before nor the state after")
     for _ in range(CUTS):
         cut = folder / "cut"
         shutil.rmtree(cut, ignore_errors=True)
         counts["power failures"] += 1
         counts["with names unsynced"] += disk.top.cut(str(cut)) > 0
-        jobs.newest += 1
-        which = check_after(program, cut, possible, jobs.newest, story)
+        which = check_after(program, cut, possible, 10 + counts["power failures"], story)
         counts["the last state"] += which == len(possible) - 1
     counts["rounds"] += 1
 
 
 def main():
-    program, rounds = arguments()
+    program, rounds = sys.argv[1], int(sys.argv[2])
+    random.seed(sys.argv[3] if len(sys.argv) > 3 else None)
     counts = {"rounds": 0, "killed": 0, "power failures": 0, "with names unsynced": 0, "the last state": 0}
     with tempfile.TemporaryDirectory(prefix="conary-power-") as name:
-        folder = pathlib.Path(name)
-        jobs = Jobs(program, folder, FILES)
+        folder, picked = pathlib.Path(name), Picked()
         for number in range(rounds):
             if number % ROUNDS_IN_A_ROOM == 0:
                 new_room(folder / "clean")
-            round_of(program, folder, jobs, counts)
+            round_of(program, folder, picked, counts)
             if number % 25 == 24:
                 print(f"after {number + 1} rounds: {counts['killed']} killed", file=sys.stderr, flush=True)
     print(counted(counts))
