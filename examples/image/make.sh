@@ -125,3 +125,15 @@ mkdir -p "$root/var/lib" "$repo"
 show_with image.changeset update -
 show verify
 cat "$root/etc/server.conf"
+
+say 'A second repository takes over what it lacks: it asks, the first one answers, and the streams are files.'
+repo=$work/mirror
+mkdir "$repo"
+echo '$ conary mirror ask > requests'
+conary mirror ask >"$work/requests"
+repo=$work/repo
+echo '$ conary serve < requests > replies'
+conary serve <"$work/requests" >"$work/replies"
+repo=$work/mirror
+show_with replies mirror take
+show rq group-image
