@@ -7,7 +7,7 @@ use Rattle.conary_cli.specs.cli-call.trove-stream.declared.parts.TroveParts.{Tro
 use Rattle.conary_cli.specs.cli-call.Answer.{answer}
 use Rattle.conary_cli.specs.cli-call.cny-laws.State.{Effect}
 use Rattle.repo_load.specs.State.{troves_of, RepositoryState}
-use Rattle.conary_cli.specs.repo-commands.repo-message.Replies.{IsReplyFault, IsSetReply}
+use Rattle.conary_cli.specs.repo-commands.repo-mirror.Replies.{IsReplyFault, IsSetReply}
 use Rattle.conary_cli.specs.repo-commands.repo-mirror.Asking.{IsAsked}
 use Rattle.conary_cli.specs.repo-commands.repo-serve.Replies.{Replies}
 use Rattle.conary_cli.specs.repo-commands.AskMirror.{ask_mirror, AnswersAsked}

@@ -33,7 +33,7 @@ use change_rel::{one_relative, one_result};
 use cny_manifest::one_manifest;
 use cny_version::distinct_texts;
 use conary_cli::cli_call::change_set::{one_fault, unique_set};
-use conary_cli::repo_commands::repo_message::one_reply;
+use conary_cli::repo_commands::repo_mirror::one_reply;
 use conary_cli::repo_commands::repo_mirror::one_asking;
 use conary_cli::repo_commands::repo_serve::one_answer;
 use conflict_plan::one_plan;

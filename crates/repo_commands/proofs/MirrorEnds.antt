@@ -6,8 +6,8 @@ use Rattle.cli_call.specs.cny-base.declared.refusal.Refusal.{Refusal}
 use Rattle.cli_call.specs.tree-disk.Disk.{DiskModel, IsDisk}
 use Rattle.cli_call.specs.trove-stream.declared.parts.TroveParts.{TroveParts}
 use Rattle.repo_load.specs.State.{troves_of}
-use Rattle.repo_message.specs.Faults.{IsMalformed}
-use Rattle.repo_message.specs.Replies.{IsReplyFault}
+use Rattle.repo_mirror.specs.Faults.{IsMalformed}
+use Rattle.repo_mirror.specs.Replies.{IsReplyFault}
 use Rattle.repo_mirror.specs.Asking.{AsksSo, IsAsked}
 use Rattle.cli_call.specs.cny-laws.Failures.{failure_of_fault}
 use Rattle.cli_call.specs.cny-laws.Store.{IsStore}

@@ -7,6 +7,5 @@ pub mod Moving
 pub mod Serving
 pub mod AskMirror
 pub mod TakeMirror
-pub use Rattle.repo_message.specs as repo-message
 pub use Rattle.repo_mirror.specs as repo-mirror
 pub use Rattle.repo_serve.specs as repo-serve

@@ -4,7 +4,7 @@ use Rattle.cli_call.specs.cny-base.declared.refusal.Refusal.{Refusal}
 use Rattle.cli_call.specs.cny-base.declared.refusal.Refusal.TheVariants.{Malformed}
 use Rattle.cli_call.specs.change-set.declared.change.ChangeSet.{ChangeSet}
 use Rattle.cli_call.specs.cny-laws.State.{Effect, Meaning}
-use Rattle.repo_message.specs.Replies.{IsReplyFault, IsSetReply}
+use Rattle.repo_mirror.specs.Replies.{IsReplyFault, IsSetReply}
 use Rattle.repo_commands.specs.Commit.{Commits}
 
 -- The bytes are the stream with the one reply that has this change set, of whole troves alone, which decides the outcome.

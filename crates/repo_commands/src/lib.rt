@@ -17,7 +17,6 @@ pub use cooking::cook_manifest;
 pub use listing::list_committed;
 pub use mirroring::{ask_mirror, take_mirror};
 pub use moving::commit_moved;
-pub use repo_message;
 pub use repo_mirror;
 pub use repo_serve;
 pub use sending::send_changes;

@@ -16,8 +16,8 @@ use Rattle.change_set.specs.cny-base.declared.limits.TheConstants.{MESSAGE_LIMIT
 use Rattle.change_set.specs.cny-base.declared.refusal.Refusal.{Refusal}
 use Rattle.change_set.specs.cny-base.declared.refusal.Refusal.TheVariants.{TooLarge}
 use Rattle.change_set.specs.cny-base.declared.refusal.What.TheVariants.{Message}
-use Rattle.repo_message.specs.declared.request.Request.TheVariants.{Missing}
-use Rattle.repo_message.specs.Requests.{ids_bytes, request_end, request_magic, FitsRequest, IsRequest}
+use Rattle.repo_mirror.specs.declared.request.Request.TheVariants.{Missing}
+use Rattle.repo_mirror.specs.Requests.{ids_bytes, request_end, request_magic, FitsRequest, IsRequest}
 use Rattle.change_set.specs.trove-parts.declared.id.TroveId.{TroveId}
 use Rattle.change_set.specs.trove-parts.Id.{IsTroveId}
 use Rattle.change_set.specs.trove-parts.Order.{id_cmp, id_eq, id_equiv, id_ties, id_total}

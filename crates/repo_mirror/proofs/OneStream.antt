@@ -8,9 +8,9 @@ use Rattle.cny_stream.specs.ItemLaws.{SameItem}
 use Rattle.cny_stream.proofs.ItemLaws.{same_item}
 use Rattle.change_set.specs.trove-parts.declared.id.TroveId.{TroveId}
 use Rattle.change_set.specs.trove-parts.Id.{id_bytes, IsTroveId}
-use Rattle.repo_message.specs.declared.request.Request.{Request}
-use Rattle.repo_message.specs.declared.request.Request.TheVariants.{Named, Content, Missing}
-use Rattle.repo_message.specs.Requests.{ids_bytes, request_bytes, request_end, request_magic, request_tag, request_value, FitsRequest, IsRequest, IsRequestStream}
+use Rattle.repo_mirror.specs.declared.request.Request.{Request}
+use Rattle.repo_mirror.specs.declared.request.Request.TheVariants.{Named, Content, Missing}
+use Rattle.repo_mirror.specs.Requests.{ids_bytes, request_bytes, request_end, request_magic, request_tag, request_value, FitsRequest, IsRequest, IsRequestStream}
 
 -- no id's bytes begin those of another one
 abbrev pub DistinctBytes : Type 0

@@ -22,13 +22,13 @@ use Rattle.repo_index.specs.Catalogue.{has_content, is_file_of, names_content}
 use Rattle.repo_load.specs.State.{records_content, trove_records, troves_of, AreFollowing, Commit, IsRepository, RepositoryState}
 use Rattle.repo_load.proofs.ContentsLaws.{named_is_recorded}
 use Rattle.repo_load.proofs.cny-base.Lists.{all_from, contains_cases, contains_map, from_map, left_all, length-map, nothing_in, one_passes}
-use Rattle.repo_message.specs.Replies.{reply_end, reply_magic, IsSetReply}
-use Rattle.repo_missing.specs.Absolute.{name_of, IsAbsoluteSet}
-use Rattle.repo_missing.specs.Lengths.{trove_length}
-use Rattle.repo_missing.specs.Missing.{AreMissing}
-use Rattle.repo_missing.proofs.Absolutes.{absolute_long}
-use Rattle.repo_missing.proofs.Gathering.{troves-append}
-use Rattle.repo_missing.proofs.Lengthening.{room_of, HaveRoom}
+use Rattle.repo_mirror.specs.Replies.{reply_end, reply_magic, IsSetReply}
+use Rattle.repo_mirror.specs.Absolute.{name_of, IsAbsoluteSet}
+use Rattle.repo_mirror.specs.Lengths.{trove_length}
+use Rattle.repo_mirror.specs.Missing.{AreMissing}
+use Rattle.repo_mirror.proofs.Absolutes.{absolute_long}
+use Rattle.repo_mirror.proofs.Gathering.{troves-append}
+use Rattle.repo_mirror.proofs.Lengthening.{room_of, HaveRoom}
 use Rattle.repo_mirror.specs.Mirroring.{SendsMissing}
 
 -- ---- troves

@@ -17,17 +17,17 @@ use Rattle.change_set.specs.trove-parts.Order.{id_eq, id_equiv}
 use Rattle.change_set.specs.trove-stream.declared.parts.TroveParts.{TroveParts}
 use Rattle.repo_index.specs.Catalogue.{found, has_content, has_id}
 use Rattle.repo_load.specs.State.{catalogue_of, troves_of, Commit, IsRepository, RepositoryState}
-use Rattle.repo_missing.specs.Absolute.{name_of, IsAbsoluteSet}
-use Rattle.repo_missing.specs.Missing.{has_one_of, missing_of}
-use Rattle.repo_missing.proofs.Gathering.{troves-append}
-use Rattle.repo_missing.proofs.Weighing.{kept_in}
+use Rattle.repo_mirror.specs.Absolute.{name_of, IsAbsoluteSet}
+use Rattle.repo_mirror.specs.Missing.{has_one_of, missing_of}
+use Rattle.repo_mirror.proofs.Gathering.{troves-append}
+use Rattle.repo_mirror.proofs.Weighing.{kept_in}
 use Rattle.repository.specs.Parts.{MakeTroves}
 use Rattle.repository.specs.Steps.{after_commit, bytes_if_carried, carried, or_carried, IsCommitStep}
 use Rattle.repository.specs.Tests.{collides}
 use Rattle.repository.proofs.Sources.{found_has, no_collision, same_content}
 use Rattle.repository.proofs.Stepping.{after_full, passed_all}
 use Rattle.repo_load.proofs.cny-base.Lists.{all_from, contains_cases, contains_first, contains_rest, nothing_in, one_passes}
-use Rattle.repo_message.specs.Replies.{IsSetReply}
+use Rattle.repo_mirror.specs.Replies.{IsSetReply}
 use Rattle.repo_mirror.specs.Asking.{AreIdsOf}
 use Rattle.repo_mirror.specs.Mirroring.{Mirrors, SendsMissing}
 use Rattle.repo_mirror.proofs.SentSets.{file_names, taken_is_sent}

@@ -9,9 +9,9 @@ use Rattle.change_set.specs.cny-base.declared.refusal.What.TheVariants.{Message}
 use Rattle.change_set.specs.trove-parts.declared.id.TroveId.{TroveId}
 use Rattle.change_set.specs.trove-parts.Refs.{AreRefs}
 use Rattle.change_set.specs.trove-stream.declared.parts.TroveParts.{TroveParts}
-use Rattle.repo_message.specs.Requests.{request_bytes, request_end, request_magic, IsRequestStream}
-use Rattle.repo_message.specs.declared.request.Request.TheVariants.{Missing}
-use Rattle.repo_missing.specs.Missing.{has_one_of}
+use Rattle.repo_mirror.specs.Requests.{request_bytes, request_end, request_magic, IsRequestStream}
+use Rattle.repo_mirror.specs.declared.request.Request.TheVariants.{Missing}
+use Rattle.repo_mirror.specs.Missing.{has_one_of}
 
 -- the ids of these troves, and no others, strictly rising
 pub record AreIdsOf (troves : List TroveParts) (ids : List TroveId) : Type 0 where

@@ -7,9 +7,9 @@ use Rattle.change_set.specs.ChangeSet.{change_bytes}
 use Rattle.change_set.specs.trove-parts.declared.id.TroveId.{TroveId}
 use Rattle.change_set.specs.trove-stream.declared.parts.TroveParts.{TroveParts}
 use Rattle.repo_load.specs.State.{troves_of, RepositoryState}
-use Rattle.repo_message.specs.Replies.{reply_end, reply_magic}
-use Rattle.repo_missing.specs.Absolute.{IsAbsoluteSet}
-use Rattle.repo_missing.specs.Missing.{AreMissing}
+use Rattle.repo_mirror.specs.Replies.{reply_end, reply_magic}
+use Rattle.repo_mirror.specs.Absolute.{IsAbsoluteSet}
+use Rattle.repo_mirror.specs.Missing.{AreMissing}
 use Rattle.repository.specs.Steps.{IsCommitStep}
 use Rattle.repo_mirror.specs.Asking.{AreIdsOf}
 

@@ -2,16 +2,16 @@
 ghost use Rattle.std.specs.Prelude.{◌≡◌, All, IfErr, IfOk, Ok, map};
 ghost use Rattle.change_set.specs.trove-parts.Id.{IsTroveId};
 ghost use Rattle.change_set.specs.trove-stream.declared.parts.TroveParts.{TroveParts};
-ghost use Rattle.repo_message.specs.Requests.{ids_bytes};
+ghost use Rattle.repo_mirror.specs.Requests.{ids_bytes};
 ghost use Rattle.repo_index.specs.Steps.{IsErrOrMemory};
 ghost use Rattle.repo_mirror.specs.Asking.{asking, AreIdsOf, AsksSo};
 
+use crate::request::{MISSING, REQUEST_END, REQUEST_MAGIC};
 use cny_stream::put_item;
 use repo_index::Catalogue;
 use repo_index::cny_base::{Bytes, Copies, Fault, MESSAGE_LIMIT, OutOfMemory, Refusal, What};
 use repo_index::trove_parts::{TroveId, put_id};
 use repo_index::trove_stream::Trove;
-use repo_message::{MISSING, REQUEST_END, REQUEST_MAGIC};
 use std::alloc::Global;
 
 // The magic, the head of the request, and the end.

@@ -30,10 +30,10 @@ use Rattle.repository.specs.change-set.declared.change.Part.{Part}
 use Rattle.repository.specs.change-set.declared.change.Part.TheVariants.{Whole}
 use Rattle.repository.specs.Between.{ArePartsBetween, HasStored, IsSoundContent, LeadsBetween, RecordsContent, SendsContent}
 use Rattle.repository.proofs.Members.{named_record}
-use Rattle.repo_missing.specs.Absolute.{IsAbsoluteSet}
-use Rattle.repo_missing.specs.Lengths.{set_length}
-use Rattle.repo_missing.specs.Missing.{too_much}
-use Rattle.repo_missing.proofs.Lengthening.{room_of, HaveRoom}
+use Rattle.repo_mirror.specs.Absolute.{IsAbsoluteSet}
+use Rattle.repo_mirror.specs.Lengths.{set_length}
+use Rattle.repo_mirror.specs.Missing.{too_much}
+use Rattle.repo_mirror.proofs.Lengthening.{room_of, HaveRoom}
 use Rattle.repo_serve.specs.Steps.{IsSetOf}
 
 -- the laws that are called upon

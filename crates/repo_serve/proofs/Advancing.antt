@@ -6,8 +6,8 @@ use Rattle.std.proofs.lemmas.List.Elements.{All-push}
 use Rattle.repo_load.specs.cny-base.declared.refusal.Refusal.{Refusal}
 use Rattle.repo_load.specs.trove-stream.declared.parts.TroveParts.{TroveParts}
 use Rattle.repo_load.specs.tree-disk.Tree.{Name, Tree}
-use Rattle.repo_message.specs.Requests.{request_bytes, FitsRequest, IsRequest}
-use Rattle.repo_message.specs.declared.request.Request.{Request}
+use Rattle.repo_mirror.specs.Requests.{request_bytes, FitsRequest, IsRequest}
+use Rattle.repo_mirror.specs.declared.request.Request.{Request}
 use Rattle.repo_load.specs.State.{RepositoryState}
 use Rattle.repo_serve.specs.Reply.{IsReplyTo}
 use Rattle.repo_serve.specs.Replies.{AreReplies}

@@ -5,10 +5,10 @@ use Rattle.std.proofs.lemmas.List.{length-take}
 use Rattle.std.proofs.lemmas.Bool.Decides.{nat_tests}
 use Rattle.cny_stream.specs.Item.{FitsItem, IsItemAt, is_expected, item_bytes}
 use Rattle.repo_load.proofs.cny-base.Below.{test_equal}
-use Rattle.repo_message.specs.Requests.{request_end, request_tag, request_tags, IsItemOf}
-use Rattle.repo_message.specs.declared.request.Request.{Request}
-use Rattle.repo_message.specs.declared.request.Request.TheVariants.{Named, Content, Missing}
-use Rattle.repo_message.specs.declared.request.TheConstants.{REQUESTS_LIMIT}
+use Rattle.repo_mirror.specs.Requests.{request_end, request_tag, request_tags, IsItemOf}
+use Rattle.repo_mirror.specs.declared.request.Request.{Request}
+use Rattle.repo_mirror.specs.declared.request.Request.TheVariants.{Named, Content, Missing}
+use Rattle.repo_mirror.specs.declared.request.TheConstants.{REQUESTS_LIMIT}
 use Rattle.repo_serve.specs.Steps.{IsFault, IsNext}
 
 -- ---- tags

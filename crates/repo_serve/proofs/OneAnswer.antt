@@ -14,13 +14,13 @@ use Rattle.repo_load.specs.cny-base.declared.refusal.What.TheVariants.{Message}
 use Rattle.repo_load.proofs.cny-base.Below.{begins}
 use Rattle.repo_load.proofs.cny-base.Lists.{all_at}
 use Rattle.repo_load.specs.State.{RepositoryState}
-use Rattle.repo_message.specs.Faults.{IsItemFault, LacksMagic}
-use Rattle.repo_message.specs.Replies.{reply_end}
-use Rattle.repo_message.specs.Requests.{request_bytes, request_end, request_magic, request_tag, request_tags, request_value, FitsRequest, IsGoodRequest, IsRequest}
-use Rattle.repo_message.specs.declared.request.Request.{Request}
-use Rattle.repo_message.specs.declared.request.Request.TheVariants.{Named, Content, Missing}
-use Rattle.repo_message.specs.declared.request.TheConstants.{REQUESTS_LIMIT}
-use Rattle.repo_message.proofs.ItemFaults.{no_fault, one_fault}
+use Rattle.repo_mirror.specs.Faults.{IsItemFault, LacksMagic}
+use Rattle.repo_mirror.specs.Replies.{reply_end}
+use Rattle.repo_mirror.specs.Requests.{request_bytes, request_end, request_magic, request_tag, request_tags, request_value, FitsRequest, IsGoodRequest, IsRequest}
+use Rattle.repo_mirror.specs.declared.request.Request.{Request}
+use Rattle.repo_mirror.specs.declared.request.Request.TheVariants.{Named, Content, Missing}
+use Rattle.repo_mirror.specs.declared.request.TheConstants.{REQUESTS_LIMIT}
+use Rattle.repo_mirror.proofs.ItemFaults.{no_fault, one_fault}
 use Rattle.repo_serve.specs.Reply.{IsReplyTo}
 use Rattle.repo_serve.specs.Replies.{reply_stream, AreReplies, IsFaultAt, IsMalformedAt, IsRefusedNext, IsServed, IsStopped, IsTooLong, IsUnanswered, Replies}
 use Rattle.repo_serve.proofs.Advancing.{items_of}

@@ -20,12 +20,12 @@ use Rattle.repo_load.specs.State.{Commit, RepositoryState}
 use Rattle.repository.specs.change-set.ChangeSet.{change_bytes, content_cmp}
 use Rattle.repository.specs.change-set.declared.change.Carried.{Carried}
 use Rattle.repository.specs.change-set.declared.change.ChangeSet.{ChangeSet}
-use Rattle.repo_message.specs.Requests.{ids_bytes, request_bytes, request_tag, request_value, FitsRequest, IsRequest}
-use Rattle.repo_message.specs.declared.request.Request.{Request}
-use Rattle.repo_message.specs.declared.request.Request.TheVariants.{Named, Content, Missing}
-use Rattle.repo_missing.specs.Absolute.{name_of, IsAbsoluteSet}
-use Rattle.repo_missing.specs.Lengths.{set_length}
-use Rattle.repo_missing.specs.Missing.{IsMissing}
+use Rattle.repo_mirror.specs.Requests.{ids_bytes, request_bytes, request_tag, request_value, FitsRequest, IsRequest}
+use Rattle.repo_mirror.specs.declared.request.Request.{Request}
+use Rattle.repo_mirror.specs.declared.request.Request.TheVariants.{Named, Content, Missing}
+use Rattle.repo_mirror.specs.Absolute.{name_of, IsAbsoluteSet}
+use Rattle.repo_mirror.specs.Lengths.{set_length}
+use Rattle.repo_mirror.specs.Missing.{IsMissing}
 use Rattle.repo_serve.specs.Reply.{IsMissingReply, IsReplyLength, IsReplyTo}
 use Rattle.repo_serve.specs.Replies.{AreReplies}
 

@@ -8,7 +8,7 @@ use Rattle.repo_load.specs.trove-parts.Id.{id_bytes}
 use Rattle.repo_load.specs.trove-parts.declared.id.TroveId.{TroveId}
 use Rattle.repo_load.specs.trove-stream.declared.parts.TroveParts.{TroveParts}
 use Rattle.repo_index.specs.Places.{troves_at}
-use Rattle.repo_message.specs.Requests.{ids_bytes}
+use Rattle.repo_mirror.specs.Requests.{ids_bytes}
 use Rattle.repo_serve.specs.Reply.{id_of}
 
 abbrev pub ids_at : List TroveParts → List ℕ → List TroveId

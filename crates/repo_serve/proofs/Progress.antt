@@ -5,7 +5,7 @@ use Rattle.repo_load.specs.cny-base.declared.refusal.Fault.{Fault}
 use Rattle.repo_load.specs.cny-base.declared.refusal.Fault.TheVariants as fault
 use Rattle.repo_load.specs.cny-base.declared.refusal.Refusal.{Refusal}
 use Rattle.repo_load.specs.tree-disk.Tree.{Tree}
-use Rattle.repo_message.specs.declared.request.Request.{Request}
+use Rattle.repo_mirror.specs.declared.request.Request.{Request}
 use Rattle.repo_serve.specs.Steps.{Advances, AnswersAll, Decides, HasAnswered, IsFaultOrMemory, IsNext, IsOver, IsUnansweredOf}
 use Rattle.repo_serve.specs.declared.answering.Answered.{Answered}
 use Rattle.repo_serve.proofs.Advancing.{at_start, one_more}

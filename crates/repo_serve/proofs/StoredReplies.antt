@@ -18,10 +18,10 @@ use Rattle.repository.specs.change-set.declared.change.Carried.{Carried}
 use Rattle.repository.specs.change-set.declared.change.ChangeSet.{ChangeSet}
 use Rattle.repository.specs.Between.{HasStored, LeadsBetween, RecordsContent}
 use Rattle.repository.specs.Damage.{IsDamagedBetween}
-use Rattle.repo_message.specs.declared.request.Request.{Request}
-use Rattle.repo_message.specs.declared.request.Request.TheVariants.{Named, Content, Missing}
-use Rattle.repo_missing.specs.Lengths.{set_length}
-use Rattle.repo_missing.specs.Missing.{commits_of, has_one_of, missing_of, AreMissing, IsTooMuch, IsTooMuchOrMemory}
+use Rattle.repo_mirror.specs.declared.request.Request.{Request}
+use Rattle.repo_mirror.specs.declared.request.Request.TheVariants.{Named, Content, Missing}
+use Rattle.repo_mirror.specs.Lengths.{set_length}
+use Rattle.repo_mirror.specs.Missing.{commits_of, has_one_of, missing_of, AreMissing, IsTooMuch, IsTooMuchOrMemory}
 use Rattle.repository.proofs.BetweenCarrying.{records_sized, sends_records}
 use Rattle.repository.proofs.Members.{named_record}
 use Rattle.repo_load.proofs.cny-base.Lists.{contains_cases, nothing_in}

@@ -13,9 +13,9 @@ use Rattle.repo_load.specs.tree-disk.Tree.{Name, Tree}
 use Rattle.repo_load.proofs.cny-base.Below.{begins, begun}
 use Rattle.repo_load.specs.Files.{StoresRepository}
 use Rattle.repo_load.specs.State.{RepositoryState}
-use Rattle.repo_message.specs.Faults.{IsMalformed, LacksMagic}
-use Rattle.repo_message.specs.Replies.{reply_end, reply_magic}
-use Rattle.repo_message.specs.Requests.{request_end, request_magic, request_tags}
+use Rattle.repo_mirror.specs.Faults.{IsMalformed, LacksMagic}
+use Rattle.repo_mirror.specs.Replies.{reply_end, reply_magic}
+use Rattle.repo_mirror.specs.Requests.{request_end, request_magic, request_tags}
 use Rattle.repo_serve.specs.Replies.{reply_stream, AreAnswered, AreRequests, IsFaultAt, IsRefusedNext, IsServed, IsStopped}
 use Rattle.repo_serve.specs.Serving.{IsDamagedReply, RepliesOf}
 use Rattle.repo_serve.specs.Steps.{Advances, AnswersAll, Decides, IsCut, IsDamagedBehind, IsDecided, IsFault, IsLastFault, IsOver, IsWithin}

@@ -1,14 +1,14 @@
 -- The replies of a repository to a stream of requests.
 use Rattle.std.specs.Prelude.{◌≡◌, ◌≢◌, ◌⊎◌, ℕ, ◌+◌, ◌<◌, ◌≤◌, List, [], ◌∷◌, ◌++◌, length, drop, flat_map, All, Result, Ok, Err}
-use Rattle.repo_message.specs.cny-base.declared.limits.TheConstants.{MESSAGE_LIMIT}
-use Rattle.repo_message.specs.cny-base.declared.refusal.Refusal.{Refusal}
-use Rattle.repo_message.specs.cny-base.declared.refusal.Refusal.TheVariants.{Malformed, TooLarge}
-use Rattle.repo_message.specs.cny-base.declared.refusal.What.TheVariants.{Message}
-use Rattle.repo_message.specs.Faults.{IsItemFault, LacksMagic}
-use Rattle.repo_message.specs.Replies.{reply_end, reply_magic}
-use Rattle.repo_message.specs.Requests.{request_bytes, request_end, request_magic, request_tags, FitsRequest, IsGoodRequest, IsRequest, IsRequestStream}
-use Rattle.repo_message.specs.declared.request.Request.{Request}
-use Rattle.repo_message.specs.declared.request.TheConstants.{REQUESTS_LIMIT}
+use Rattle.repo_mirror.specs.cny-base.declared.limits.TheConstants.{MESSAGE_LIMIT}
+use Rattle.repo_mirror.specs.cny-base.declared.refusal.Refusal.{Refusal}
+use Rattle.repo_mirror.specs.cny-base.declared.refusal.Refusal.TheVariants.{Malformed, TooLarge}
+use Rattle.repo_mirror.specs.cny-base.declared.refusal.What.TheVariants.{Message}
+use Rattle.repo_mirror.specs.Faults.{IsItemFault, LacksMagic}
+use Rattle.repo_mirror.specs.Replies.{reply_end, reply_magic}
+use Rattle.repo_mirror.specs.Requests.{request_bytes, request_end, request_magic, request_tags, FitsRequest, IsGoodRequest, IsRequest, IsRequestStream}
+use Rattle.repo_mirror.specs.declared.request.Request.{Request}
+use Rattle.repo_mirror.specs.declared.request.TheConstants.{REQUESTS_LIMIT}
 use Rattle.repo_load.specs.State.{RepositoryState}
 use Rattle.repo_serve.specs.Reply.{IsReplyLength, IsReplyTo}
 

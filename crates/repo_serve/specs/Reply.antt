@@ -2,20 +2,20 @@
 use Rattle.std.specs.Prelude.{◌≡◌, ℕ, ◌+◌, List, ◌++◌, length, map, All, Option, Some, None, Result, Ok, Err}
 use Rattle.std.specs.Int.{w32, to_be_bytes}
 use Rattle.cny_stream.specs.Item.{item_bytes}
-use Rattle.repo_message.specs.cny-base.declared.refusal.Refusal.{Refusal}
-use Rattle.repo_message.specs.trove-parts.declared.id.TroveId.{TroveId}
-use Rattle.repo_message.specs.trove-stream.declared.parts.TroveParts.{TroveParts}
-use Rattle.repo_message.specs.change-set.ChangeSet.{change_bytes}
-use Rattle.repo_message.specs.change-set.declared.change.Carried.{Carried}
-use Rattle.repo_message.specs.change-set.declared.change.ChangeSet.{ChangeSet}
-use Rattle.repo_message.specs.Requests.{ids_bytes}
-use Rattle.repo_message.specs.declared.request.Request.{Request}
-use Rattle.repo_message.specs.declared.request.Request.TheVariants.{Named, Content, Missing}
+use Rattle.repo_mirror.specs.cny-base.declared.refusal.Refusal.{Refusal}
+use Rattle.repo_mirror.specs.trove-parts.declared.id.TroveId.{TroveId}
+use Rattle.repo_mirror.specs.trove-stream.declared.parts.TroveParts.{TroveParts}
+use Rattle.repo_mirror.specs.change-set.ChangeSet.{change_bytes}
+use Rattle.repo_mirror.specs.change-set.declared.change.Carried.{Carried}
+use Rattle.repo_mirror.specs.change-set.declared.change.ChangeSet.{ChangeSet}
+use Rattle.repo_mirror.specs.Requests.{ids_bytes}
+use Rattle.repo_mirror.specs.declared.request.Request.{Request}
+use Rattle.repo_mirror.specs.declared.request.Request.TheVariants.{Named, Content, Missing}
 use Rattle.repo_index.specs.Catalogue.{named}
 use Rattle.repo_load.specs.State.{troves_of, RepositoryState}
-use Rattle.repo_missing.specs.Absolute.{IsAbsoluteSet}
-use Rattle.repo_missing.specs.Lengths.{set_length}
-use Rattle.repo_missing.specs.Missing.{AreMissing, IsTooMuch}
+use Rattle.repo_mirror.specs.Absolute.{IsAbsoluteSet}
+use Rattle.repo_mirror.specs.Lengths.{set_length}
+use Rattle.repo_mirror.specs.Missing.{AreMissing, IsTooMuch}
 
 abbrev pub id_of : TroveParts → TroveId
 id_of t = t.id

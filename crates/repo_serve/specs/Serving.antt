@@ -4,16 +4,16 @@ use Rattle.sha1.specs.Sha1.{sha1}
 use Rattle.repo_load.specs.cny-base.declared.refusal.Refusal.{Refusal}
 use Rattle.repo_load.specs.cny-base.declared.stop.Stop.{Stop}
 use Rattle.repo_load.specs.trove-stream.declared.parts.TroveParts.{TroveParts}
-use Rattle.repo_message.specs.Requests.{request_bytes, IsRequest}
-use Rattle.repo_message.specs.declared.request.Request.{Request}
-use Rattle.repo_message.specs.declared.request.Request.TheVariants.{Named, Content, Missing}
+use Rattle.repo_mirror.specs.Requests.{request_bytes, IsRequest}
+use Rattle.repo_mirror.specs.declared.request.Request.{Request}
+use Rattle.repo_mirror.specs.declared.request.Request.TheVariants.{Named, Content, Missing}
 use Rattle.repo_load.specs.tree-disk.Tree.{Name, Tree}
 use Rattle.repo_load.specs.tree-disk.Disk.{DiskModel}
 use Rattle.repo_load.specs.content-store.Store.{content_path, stored}
 use Rattle.repo_index.specs.Catalogue.{names_content}
 use Rattle.repo_load.specs.Files.{contents_dir, StoresRepository}
 use Rattle.repo_load.specs.State.{records_content, RepositoryState}
-use Rattle.repo_missing.specs.Missing.{has_one_of}
+use Rattle.repo_mirror.specs.Missing.{has_one_of}
 use Rattle.repo_serve.specs.Answers.{Answers}
 use Rattle.repo_serve.specs.Replies.{AreRequests, Replies}
 

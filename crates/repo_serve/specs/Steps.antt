@@ -9,15 +9,15 @@ use Rattle.repo_load.specs.cny-base.Below.{begins_with}
 use Rattle.repo_load.specs.cny-base.declared.limits.TheConstants.{MESSAGE_LIMIT}
 use Rattle.repo_load.specs.trove-stream.declared.parts.TroveParts.{TroveParts}
 use Rattle.repo_load.specs.tree-disk.Tree.{Name, Tree}
-use Rattle.repo_message.specs.Requests.{request_bytes, request_end, request_tags, FitsRequest, IsGoodRequest, IsRequest}
-use Rattle.repo_message.specs.change-set.ChangeSet.{change_bytes}
-use Rattle.repo_message.specs.change-set.declared.change.ChangeSet.{ChangeSet}
-use Rattle.repo_message.specs.declared.request.Request.{Request}
-use Rattle.repo_message.specs.declared.request.TheConstants.{REQUESTS_LIMIT}
+use Rattle.repo_mirror.specs.Requests.{request_bytes, request_end, request_tags, FitsRequest, IsGoodRequest, IsRequest}
+use Rattle.repo_mirror.specs.change-set.ChangeSet.{change_bytes}
+use Rattle.repo_mirror.specs.change-set.declared.change.ChangeSet.{ChangeSet}
+use Rattle.repo_mirror.specs.declared.request.Request.{Request}
+use Rattle.repo_mirror.specs.declared.request.TheConstants.{REQUESTS_LIMIT}
 use Rattle.repo_load.specs.Files.{StoresRepository}
 use Rattle.repo_load.specs.State.{RepositoryState}
 use Rattle.repository.specs.Between.{HasStored, LeadsBetween}
-use Rattle.repo_missing.specs.Absolute.{IsAbsoluteSet}
+use Rattle.repo_mirror.specs.Absolute.{IsAbsoluteSet}
 use Rattle.repo_serve.specs.Reply.{IsReplyTo}
 use Rattle.repo_serve.specs.Replies.{AreReplies, GoesOn, IsRefusedNext, IsUnanswered}
 use Rattle.repo_serve.specs.Serving.{IsDamagedFor}

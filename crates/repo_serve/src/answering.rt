@@ -1,7 +1,7 @@
 //! Requests are answered, one behind the other.
 ghost use Rattle.std.specs.Prelude.{◌≡◌, ◌<◌, ◌≤◌, ◌++◌, IfErr, IfOk, IfSome, IsTrue, MatchOption, OnOk, length};
 ghost use Rattle.repo_load.specs.Files.{HoldsCatalogue};
-ghost use Rattle.repo_message.specs.declared.request.TheConstants.{REQUESTS_LIMIT};
+ghost use Rattle.repo_mirror.specs.declared.request.TheConstants.{REQUESTS_LIMIT};
 ghost use Rattle.repo_serve.specs.Answers.{Answers};
 ghost use Rattle.repo_serve.specs.Steps.{AnswersAll, AnswersOne, Decides, HasMoved, IsDamagedBehind, IsDamagedNext, IsDecided, IsFaultOrMemory, IsNext, IsOver, IsWithin};
 

@@ -3,7 +3,7 @@ ghost use Rattle.std.specs.Prelude.{◌≡◌, ◌+◌, ◌++◌, ◌≤◌, IfO
 ghost use Rattle.cny_stream.specs.Item.{item_bytes};
 ghost use Rattle.repo_load.specs.cny-base.declared.limits.TheConstants.{MESSAGE_LIMIT};
 ghost use Rattle.repo_load.specs.Files.{HoldsCatalogue};
-ghost use Rattle.repo_message.specs.declared.request.Request.TheVariants.{Content};
+ghost use Rattle.repo_mirror.specs.declared.request.Request.TheVariants.{Content};
 ghost use Rattle.repo_serve.specs.Answers.{Answers};
 ghost use Rattle.repo_serve.specs.Reply.{content_reply};
 ghost use Rattle.repo_serve.specs.Serving.{IsDamagedFor};

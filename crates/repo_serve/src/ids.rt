@@ -2,7 +2,7 @@
 ghost use Rattle.std.specs.Prelude.{◌≡◌, ◌+◌, ◌++◌, ◌≤◌, IfErr, IfOk, OnOk, length, map};
 ghost use Rattle.repo_load.specs.cny-base.declared.limits.TheConstants.{MESSAGE_LIMIT};
 ghost use Rattle.repo_load.specs.trove-parts.Id.{id_bytes};
-ghost use Rattle.repo_message.specs.Requests.{ids_bytes};
+ghost use Rattle.repo_mirror.specs.Requests.{ids_bytes};
 ghost use Rattle.repo_index.specs.Places.{troves_at};
 ghost use Rattle.repo_serve.specs.Reply.{id_of, ids_named, ids_reply, ids_value};
 ghost use Rattle.repo_serve.specs.Room.{IsLongOrMemory};

@@ -8,7 +8,7 @@ ghost use Rattle.repo_serve.specs.Replies.{Replies};
 ghost use Rattle.repo_serve.specs.Serving.{IsDamagedReply};
 
 use repo_load::trove_parts::distinct_ids;
-use repo_missing::{one_missing, sent_length};
+use repo_mirror::{one_missing, sent_length};
 
 /// A state has one answer to a stream of requests.
 pub fn one_answer()

@@ -13,6 +13,6 @@ mod serving;
 mod sets;
 
 pub use laws::{one_answer, sound_replies};
-pub use repo_message;
+pub use repo_mirror;
 pub use repository::change_set;
 pub use serving::serve;

@@ -1,12 +1,12 @@
 //! The next request of a stream.
 ghost use Rattle.std.specs.Prelude.{◌≡◌, ◌≢◌, IfErr, IfOk, IsErrOf, MatchOption, None};
 ghost use Rattle.cny_stream.specs.Item.{begins_unexpected};
-ghost use Rattle.repo_message.specs.Requests.{request_tags};
+ghost use Rattle.repo_mirror.specs.Requests.{request_tags};
 ghost use Rattle.repo_serve.specs.Steps.{IsFault, IsNext, IsOver};
 
 use cny_stream::{Item, next_item};
 use repo_load::cny_base::TextFault;
-use repo_message::{CONTENT, MISSING, NAMED, REQUEST_END, REQUESTS_LIMIT, Request, request_of};
+use repo_mirror::{CONTENT, MISSING, NAMED, REQUEST_END, REQUESTS_LIMIT, Request, request_of};
 use std::alloc::Global;
 
 /// A request, and where its item ends.

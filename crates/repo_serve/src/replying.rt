@@ -2,8 +2,8 @@
 ghost use Rattle.std.specs.Prelude.{◌+◌, ◌≤◌, IfOk, IsTrue, length};
 ghost use Rattle.repo_load.specs.cny-base.declared.limits.TheConstants.{MESSAGE_LIMIT};
 ghost use Rattle.repo_load.specs.Files.{HoldsCatalogue};
-ghost use Rattle.repo_message.specs.Requests.{IsRequest};
-ghost use Rattle.repo_message.specs.declared.request.Request.TheVariants.{Named};
+ghost use Rattle.repo_mirror.specs.Requests.{IsRequest};
+ghost use Rattle.repo_mirror.specs.declared.request.Request.TheVariants.{Named};
 ghost use Rattle.repo_serve.specs.Answers.{Answers};
 ghost use Rattle.repo_serve.specs.Serving.{IsDamagedFor};
 ghost use Rattle.repo_serve.specs.Steps.{IsReplyOf, IsUnansweredOf};
@@ -15,7 +15,7 @@ use repo_index::Catalogue;
 use repo_load::cny_base::{Bytes, Name, Stop};
 use repo_load::stored_state;
 use repo_load::tree_disk::TreeDisk;
-use repo_message::Request;
+use repo_mirror::Request;
 use std::alloc::Global;
 
 // The reply with the ids of a name. The disk isn't asked.

@@ -2,8 +2,8 @@
 ghost use Rattle.std.specs.Prelude.{◌≡◌, ◌≤◌, IfErr, IsTrue, OnOk, drop, length, true};
 ghost use Rattle.repo_load.specs.cny-base.Below.{begins_with};
 ghost use Rattle.repo_load.specs.Files.{HoldsCatalogue};
-ghost use Rattle.repo_message.specs.Faults.{IsMalformed, LacksMagic};
-ghost use Rattle.repo_message.specs.Requests.{request_end, request_magic};
+ghost use Rattle.repo_mirror.specs.Faults.{IsMalformed, LacksMagic};
+ghost use Rattle.repo_mirror.specs.Requests.{request_end, request_magic};
 ghost use Rattle.repo_serve.specs.Serving.{Serves};
 ghost use Rattle.repo_serve.specs.Steps.{IsLastFault};
 
@@ -11,7 +11,7 @@ use crate::answering::{Answered, answer_all};
 use repo_index::Catalogue;
 use repo_load::cny_base::{Bytes, Fault, Refusal, Stop};
 use repo_load::tree_disk::TreeDisk;
-use repo_message::{REQUEST_END, REQUEST_MAGIC};
+use repo_mirror::{REQUEST_END, REQUEST_MAGIC};
 use std::alloc::Global;
 
 // `CNYRP01` and a line feed.

@@ -3,7 +3,7 @@ use Rattle.std.proofs.lemmas.List.Elements.{All-push}
 use Rattle.change_set.specs.trove-parts.declared.id.TroveId.{TroveId}
 use Rattle.change_set.specs.trove-parts.Id.{IsTroveId}
 use Rattle.repo_load.proofs.cny-base.Lists.{map_push}
-use Rattle.repo_missing.proofs.Lengthening.{take_next}
+use Rattle.repo_mirror.proofs.Lengthening.{take_next}
 use Rattle.repo_mirror.proofs.Asked.{id_of}
 use Rattle.repo_mirror.proofs.asking.ids_of.Goals as goal
 

@@ -1,5 +1,5 @@
 use Rattle.std.proofs.Common.{◌≡◌, take}
-use Rattle.repo_message.specs.Requests.{ids_bytes}
+use Rattle.repo_mirror.specs.Requests.{ids_bytes}
 use Rattle.repo_mirror.proofs.asking.value_of.Given as goal
 
 abbrev pub invariant-loop-id : goal.invariant-loop-id

@@ -2,7 +2,7 @@ use Rattle.std.proofs.Common.{◌≡◌, ℕ, ◌-◌, ◌≤◌, ◌<◌, List,
 use Rattle.std.specs.Prelude.{IfSome}
 use Rattle.repo_load.specs.cny-base.declared.refusal.Refusal.{Refusal}
 use Rattle.repo_load.specs.tree-disk.Tree.{Name, Tree}
-use Rattle.repo_missing.proofs.Lengthening.{take_whole}
+use Rattle.repo_mirror.proofs.Lengthening.{take_whole}
 use Rattle.repo_serve.specs.Answers.{Answers}
 use Rattle.repo_serve.specs.Steps.{AnswersAll, AnswersOne, Decides, HasAnswered, IsDamagedNext}
 use Rattle.repo_serve.proofs.Advancing.{damaged, decided}

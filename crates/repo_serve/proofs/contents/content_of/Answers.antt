@@ -1,5 +1,5 @@
 use Rattle.std.proofs.Common.{◌≡◌, length, rules}
-use Rattle.repo_message.specs.declared.request.Request.TheVariants.{Content}
+use Rattle.repo_mirror.specs.declared.request.Request.TheVariants.{Content}
 use Rattle.repo_serve.proofs.AnswersLaws.{answers_fault, answers_stop, from_looks}
 use Rattle.repo_serve.proofs.StoredReplies.{damaged_content, found_length, long_refused}
 use Rattle.repo_serve.proofs.contents.content_of.Goals as goal

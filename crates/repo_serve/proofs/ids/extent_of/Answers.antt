@@ -2,7 +2,7 @@ use Rattle.std.proofs.Common.{List, ℕ, length, take, get_or, ap, sym, ◌∙�
 use Rattle.std.proofs.lemmas.List.{take_more}
 use Rattle.repo_load.specs.trove-parts.Id.{id_bytes}
 use Rattle.repo_load.specs.trove-parts.declared.id.TroveId.{TroveId}
-use Rattle.repo_message.specs.Requests.{ids_bytes}
+use Rattle.repo_mirror.specs.Requests.{ids_bytes}
 use Rattle.repo_serve.specs.Reply.{id_of}
 use Rattle.repo_serve.specs.declared.ids.Extent.{Extent}
 use Rattle.repo_serve.proofs.PlacedIds.{bytes_more, ids_at, none_more, one_more}

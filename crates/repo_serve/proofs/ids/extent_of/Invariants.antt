@@ -1,5 +1,5 @@
 use Rattle.std.proofs.Common.{◌≡◌, ◌≤◌, length, take}
-use Rattle.repo_message.specs.Requests.{ids_bytes}
+use Rattle.repo_mirror.specs.Requests.{ids_bytes}
 use Rattle.repo_serve.proofs.PlacedIds.{ids_at}
 use Rattle.repo_serve.proofs.ids.extent_of.Given as goal
 

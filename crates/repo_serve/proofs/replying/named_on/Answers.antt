@@ -1,5 +1,5 @@
 use Rattle.std.proofs.Common.{length}
-use Rattle.repo_message.specs.declared.request.Request.TheVariants.{Named}
+use Rattle.repo_mirror.specs.declared.request.Request.TheVariants.{Named}
 use Rattle.repo_serve.specs.Reply.{ids_named, ids_reply}
 use Rattle.repo_serve.proofs.AnswersLaws.{answers_fault, looked}
 use Rattle.repo_serve.proofs.StoredReplies.{long_refused, named_length}

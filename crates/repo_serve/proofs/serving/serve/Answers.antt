@@ -1,6 +1,6 @@
 use Rattle.std.proofs.Common.{◌≡◌, ◌++◌, List, ℕ, length, sym, ap, ◌∙◌, subst, arith}
-use Rattle.repo_message.specs.Replies.{reply_magic}
-use Rattle.repo_message.specs.Requests.{request_magic}
+use Rattle.repo_mirror.specs.Replies.{reply_magic}
+use Rattle.repo_mirror.specs.Requests.{request_magic}
 use Rattle.repo_serve.specs.Steps.{AnswersAll}
 use Rattle.repo_serve.proofs.AnswersLaws.{answers_fault, answers_stop, answers_value}
 use Rattle.repo_serve.proofs.WholeStreams.{after_magic, all_served, all_stopped, damaged, refused}

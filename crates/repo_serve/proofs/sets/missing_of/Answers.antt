@@ -1,8 +1,8 @@
 use Rattle.std.proofs.Common.{◌∙◌, ap, subst, ℕ, ◌+◌, List, []}
 use Rattle.repo_load.specs.Looks.{Looks}
 use Rattle.repo_load.specs.trove-stream.declared.parts.TroveParts.{TroveParts}
-use Rattle.repo_message.specs.declared.request.Request.TheVariants.{Missing}
-use Rattle.repo_missing.specs.Missing.{commits_of, AreMissing}
+use Rattle.repo_mirror.specs.declared.request.Request.TheVariants.{Missing}
+use Rattle.repo_mirror.specs.Missing.{commits_of, AreMissing}
 use Rattle.repository.specs.Damage.{IsDamagedBetween}
 use Rattle.repo_serve.specs.Steps.{IsSetOf}
 use Rattle.repo_serve.proofs.AnswersLaws.{answers_fault, answers_then, from_looks}

@@ -1,3 +1,0 @@
-pub mod IdLists
-pub mod ItemFaults
-mod SetReplies

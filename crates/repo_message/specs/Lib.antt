@@ -1,7 +1,0 @@
-pub mod Faults
-pub mod Requests
-pub mod Replies
-pub use Rattle.change_set.specs as change-set
-pub use Rattle.change_set.specs.cny-base
-pub use Rattle.change_set.specs.trove-parts
-pub use Rattle.change_set.specs.trove-stream
