@@ -1,7 +1,7 @@
 """Lines of root_lines on rollback stacks: calls, and what they have to answer.
 
-The answers come from tools/model/stacks.py, a reading of docs/FORMATS.md and docs/MODEL.md by the files of a root; the roots from
-tools/model/root.py, which keeps whole trees and whole lists. What both make of a job is compared. None of them shares anything with the program."""
+The answers come from tools/model/stacks.py, a reading of docs/ by the files of a root; the roots from tools/model/root.py, which keeps whole trees
+and whole lists. What both make of a job is compared. None of them shares anything with the program."""
 import itertools
 
 from tools.cases.rows import Rows

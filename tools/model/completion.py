@@ -1,4 +1,4 @@
-"""Updates that complete themselves, and system models, by docs/MODEL.md and docs/FORMATS.md alone: each round makes its whole list anew, and each
+"""Updates that complete themselves, and system models, by docs/COMMANDS.md and docs/FORMATS.md alone: each round makes its whole list anew, and each
 line of a model the whole list so far."""
 import re
 

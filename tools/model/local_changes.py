@@ -1,5 +1,5 @@
-"""Local changes: the change set that comes of a tree, installed troves and a name, by docs/MODEL.md and docs/FORMATS.md alone. Nodes and trees are
-those of tools/model/plans.py, troves those of streams."""
+"""Local changes: the change set that comes of a tree, installed troves and a name, by docs/COMMANDS.md, docs/MODEL.md and docs/FORMATS.md alone.
+Nodes and trees are those of tools/model/plans.py, troves those of streams."""
 from tools.model import lists
 from tools.model.relatives import relative_of
 from tools.model.streams import LARGEST_CONTENT, ROOT, Refused, Trove, check_trove, directory, file_of, keep, link, set_bytes, sha

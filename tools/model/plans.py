@@ -1,4 +1,4 @@
-"""What a job does to a tree, by docs/MODEL.md alone: the table of paths, plans, and the tests of their write sets.
+"""What a job does to a tree, by docs/MODEL.md and docs/COMMANDS.md alone: the table of paths, plans, and the tests of their write sets.
 
 A node is None, ("dir", mode), ("file", mode, bytes) or ("link", target), and a tree a dict of them by path; a record is one of a stream; the troves
 of a list are a dict by name, of dicts of records by path."""

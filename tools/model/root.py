@@ -1,6 +1,6 @@
-"""A model of a root and of jobs on it, made from docs/FORMATS.md and docs/MODEL.md alone: its files, with the whole trees and lists of each job
-kept beside them; the tests of an update, an erasure and a whole new list in their order, what each makes of the tree, the list and the stack; the
-newest jobs taken back; and roots compared with their troves. Nothing is shared with the program."""
+"""A model of a root and of jobs on it, made from docs/FORMATS.md, docs/MODEL.md and docs/COMMANDS.md alone: its files, with the whole trees and
+lists of each job kept beside them; the tests of an update, an erasure and a whole new list in their order, what each makes of the tree, the list
+and the stack; the newest jobs taken back; and roots compared with their troves. Nothing is shared with the program."""
 import itertools
 from collections import namedtuple
 

@@ -1,5 +1,5 @@
 """Rollback stacks by the files of a root, the second reading of jobs beside tools/model/root.py: each record is read against the list after its
-job, and jobs are taken back by fingerprints. Made from docs/FORMATS.md and docs/MODEL.md alone.
+job, and jobs are taken back by fingerprints. Made from docs/FORMATS.md, docs/MODEL.md and docs/COMMANDS.md alone.
 
 The files are the nodes of a root by their paths, also those outside the private directory."""
 from collections import namedtuple

@@ -1,6 +1,5 @@
 //! Answers calls on databases, rollback records, saved contents and stacks of jobs, and makes jobs on roots in memory and takes them
-//! back. Input and wanted output come from tools/lines/root_lines.py, which is made from the rules of docs/FORMATS.md and docs/MODEL.md
-//! alone.
+//! back. Input and wanted output come from tools/lines/root_lines.py, which is made from the rules of docs/ alone.
 #![tactic(auto)]
 
 mod databases;
