@@ -7,11 +7,10 @@ import re
 import sys
 
 from tools.cases.rows import Rows
-from tools.lines.words import digits
+from tools.lines.words import answered, digits, line, rows_of
 from tools.model import repository
 from tools.model.streams import regular, trove_bytes, trove_of
-from tools.model.texts import NotOfForm, flavor_of, flavor_text, id_of_text, id_text, version_of
-from tools.model.trees import Refused
+from tools.model.texts import flavor_of, flavor_text, id_of_text, id_text, version_of
 
 LABEL = b"conary.example.com@ex:devel"
 OTHER = b"conary.example.com@ex:stable"
@@ -26,8 +25,10 @@ def named(name, version=on(LABEL, b"1.0-1-1"), flavor=b""):
     return name + b"=" + version + flavor
 
 
-F255, F256 = b"f" * 255, b"f" * 256
-TABLE = Rows("catalogues", globals(), {f"L{size}": b"h@n:" + b"t" * (size - 4) for size in range(240, 256)})
+F255, F256, LINES = b"f" * 255, b"f" * 256, b"\n" * 65528
+LONG_LABELS = {f"L{size}": b"h@n:" + b"t" * (size - 4) for size in range(240, 256)}
+PATHS = {f"LABELS_{count}": b"installLabelPath " + b" ".join(b"a@b:c%d" % place for place in range(count)) for count in (63, 64, 65)}
+TABLE = Rows("catalogues", globals(), LONG_LABELS, PATHS)
 # The topics of worked cases, whose answers are written by hand.
 WORKED = [topic for topic in TABLE.topics if "_" in topic]
 
@@ -47,16 +48,6 @@ def numbers_of(trove):
 def shown(troves):
     """The last one."""
     return [b"ok", id_text(troves[-1].identity), b"%d" % len(troves[-1].files)] if troves else [b"none"]
-
-
-def refused_or(call):
-    def answer(*arguments):
-        try:
-            return call(*arguments)
-        except Refused as refused:
-            return [refused.args[0]]
-
-    return answer
 
 
 class Answers:
@@ -109,27 +100,20 @@ class Answers:
         return [b"yes" if any(b"%d" % byte in numbers_of(one) for one in self.catalogue.troves) else b"no"]
 
     def spec(self, text):
-        try:
-            spec = repository.spec_of(text)
-        except NotOfForm:
-            return [b"bad"]
+        spec = repository.spec_of(text)
         kind, *place = ("any",) if spec.place is None else spec.place
         return [b"ok", spec.name, kind.encode(), *place] + ([b"none"] if spec.flavor is None else [b"flavor", flavor_text(spec.flavor)])
 
-    @refused_or
     def config(self, data):
         config = repository.read_config(data)
         return [b"ok", b" ".join(config.labels), flavor_text(config.flavor)]
 
-    @refused_or
     def resolve(self, text, labels, flavor):
         return [id_text(repository.resolve(self.catalogue, repository.spec_of(text), repository.Config(labels, flavor_of(flavor))))]
 
-    @refused_or
     def expand(self, *roots):
         return [b"ok", *(id_text(one.identity) for one in repository.expand(self.catalogue, *map(id_of_text, roots)))]
 
-    @refused_or
     def moved(self, root, label, way):
         """What the root reaches, each version as a shadow on the label or as a branch onto it, and the references along."""
         ids = self.catalogue.ids()
@@ -157,7 +141,7 @@ FIELDS = {
 
 def line_of(call, *arguments):
     fields = FIELDS.get(call, lambda *given: given)(*arguments)
-    return "\t".join([call, *(field if isinstance(field, str) else field.decode() for field in fields)])
+    return line(call, *fields)
 
 
 # ---- the calls
@@ -211,88 +195,19 @@ def calls_of(row):
         case "moved":
             text, label, way = rest.split(" ")
             yield call, id_text_of(text), TABLE.bytes(label), way
-        case "config":
+        case "config" | "spec":
             yield call, TABLE.bytes(rest)
         case _:
             yield call, *TABLE.lines(rest.split())
 
 
 def calls_in(topic):
-    return (call for row in TABLE.topics[topic] for call in calls_of(row))
-
-
-def spec_calls():
-    """Texts of specifications, and texts of none."""
-    names, places, flavors = map(TABLE.all_bytes, ("names", "places", "flavors"))
-    yield from (("spec", name + place) for name in names for place in places)
-    yield from (("spec", b"foo:runtime" + place + flavor) for place in places for flavor in flavors)
-
-
-def config_calls():
-    """Configuration files: one line of each kind, and files of several lines."""
-    keys, values, lines = map(TABLE.all_bytes, ("keys", "values", "lines of configurations"))
-    blanks = [blank.split(b"|") for blank in (b"| |", b" \t|\t  |\t \r", b"\r| |", b"|\r|", b"| |\r\r", b"| |\r ", b"|=|")]
-    for key, value, (front, between, back) in itertools.product(keys, values, blanks):
-        yield "config", front + key + between + value + back
-    lines += (b"installLabelPath " + b" ".join(b"a@b:c%d" % place for place in range(count)) for count in (63, 64, 65))
-    for first, second in itertools.product(lines, lines):
-        yield from (("config", first + b"\n" + second), ("config", first + b"\r\n\r\n" + second + b"\r\n"))
-        yield "config", b"flavor zip\ninstallLabelPath x@y:z\n" + first + b"\n" + second + b"\n"
-    yield "config", b"\n" * 65528 + b"flavor !"
-
-
-def resolve_calls():
-    """Which troves specifications mean: on labels, at versions, on flavors."""
-    # A newer version wins over a better score; of one version the flavor that fits is chosen. The refusals of specifications without a
-    # label, and of those that nothing resolves.
-    yield from calls_in("resolved")
-    flavors, paths = TABLE.all_bytes("flavors of a configuration"), [path.split() for path in TABLE.all_bytes("paths of labels")]
-    for name, flavor in itertools.product((b"foo:runtime", b"old:lib", b"baz:lib", b"tie:lib", b"tie:source", b"absent"), flavors):
-        yield from (("resolve", name, path, flavor) for path in paths)
-        for label in (LABEL, OTHER, OLD):
-            for own, path in ((b"", [b"a@b:c"]), (b"[~!krb]", []), (b"[]", [LABEL])):
-                yield "resolve", name + b"=" + label + own, path, flavor
-        for revision in (b"1.0-1-1", b"1.0-2-1", b"1.0-3-1", b"2.0-1-1", b"9-9-9"):
-            yield "resolve", named(name, on(LABEL, revision)), [], flavor
-            yield "resolve", named(name, on(OLD, revision), b"[is: x86]"), [OTHER], flavor
-        yield "resolve", name + b"=/" + LABEL + b"//stable/1.0-1", [], flavor
-
-
-def expand_calls():
-    """What the references of some troves reach: shared components, rings, references to nothing, several ids of one name."""
-    # Two packages of two versions with their components, and groups that share them.
-    for revision, name in itertools.product((b"1.0-1-1", b"1.0-2-1", b"1.0-10-1"), (b"one", b"two")):
-        parts = [named(name + part, on(LABEL, revision)) for part in (b":devel", b":lib", b":runtime")]
-        yield from map(add, parts)
-        yield add(named(name, on(LABEL, revision)), *parts)
-    # A ring, a reference to nothing, a chain, and one name with two flavors.
-    yield from calls_in("groups that are expanded")
-    chain = [named(b"group-chain%02d" % place) for place in range(30)]
-    yield from (add(text, *(chain[place + 1 : place + 2] or [named(b"two")])) for place, text in enumerate(chain))
-    yield from calls_in("expanded")
-    texts = [id_text_of(text) for row in TABLE.topics["roots of expansions"] for text in row.split()]
-    yield from (("expand", first, *second) for first in texts for second in [[], *([text] for text in texts)])
-    yield "expand", *chain
-    yield from calls_in("many roots")
-    yield from calls_in("groups by chance, and what some of them reach")
+    return (call for row in TABLE.steps(rows_of(TABLE.topics, topic)) for call in calls_of(row))
 
 
 def move(text, *labels):
     """Onto each label, as a shadow and as a branch."""
     return (("moved", text, label, way) for label in labels for way in ("shadow", "branch"))
-
-
-def moved_calls():
-    """What troves reach, as shadows on labels and as branches onto them, and each reason why it isn't moved."""
-    # Packages with their components, one with a flavor; groups that share them, a group of groups, a ring; other versions of one name,
-    # on the label and elsewhere. Moved troves are committed and moved again: their ids exist, and go on from branch to branch. A source's
-    # shadow has a source count of its own; a branch of it keeps it.
-    yield from calls_in("moved")
-    # At the limit of a version's text, and past it: the first that is too long, the label before, the existing id after.
-    yield from calls_in("moved at the limit of a version")
-    yield from calls_in("components by chance, and groups of them, of which some moved ids exist already")
-    # With a reference to nothing, if only of a trove that the root doesn't reach.
-    yield from (add(named(b"group-lost"), named(b"absent")), *move(named(b"b:lib"), OTHER))
 
 
 def index_thousand_names():
@@ -318,12 +233,19 @@ def answered_rows(topic):
         yield next(calls_of(step)), TABLE.bytes(says)
 
 
+# A newer version wins over a better score; of one version the flavor that fits is chosen. The refusals of specifications without a label, and of those
+# that nothing resolves. Packages of three versions, groups that share them, a ring, a reference to nothing, a chain, and one name with two flavors. Moved
+# troves are committed and moved again: their ids exist, and go on from branch to branch. A source's shadow has a source count of its own; a branch of it
+# keeps it. At the limit of a version's text, and past it: the first that is too long, the label before, the existing id after.
+TOPICS = (
+    "index", "specifications", "configurations", "resolved", "resolutions", "packages that are expanded", "groups that are expanded",
+    "a chain of groups", "expanded", "expansions", "many roots", "groups by chance, and what some of them reach", "a move of what isn't there", "moved",
+    "moved at the limit of a version", "components by chance, and groups of them, of which some moved ids exist already", "what refers outside",
+)  # fmt: skip
+
+
 def calls():
-    yield from calls_in("index")
-    for topic in (spec_calls, config_calls, resolve_calls, expand_calls):
-        yield from topic()
-    yield "moved", named(b"absent"), OTHER, "shadow"
-    yield from moved_calls()
+    yield from itertools.chain.from_iterable(map(calls_in, TOPICS))
     yield from index_thousand_names()
     for topic in WORKED:
         yield ("new",)
@@ -331,7 +253,8 @@ def calls():
 
 
 def answer(answers, call, *arguments):
-    return b"\t".join(getattr(answers, call)(*arguments))
+    found = answered(getattr(answers, call), *arguments)
+    return found.encode() if isinstance(found, str) else b"\t".join(found)
 
 
 def lines():

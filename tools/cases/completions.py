@@ -7,25 +7,13 @@ import re
 
 from tools.cases.jobs import listed, shown
 from tools.cases.rows import LABEL, STABLE, Rows, repeated
-from tools.lines.words import digits
+from tools.lines.words import answered, digits, line
 from tools.model import completion, repository
 from tools.model.lists import by_name
 from tools.model.streams import id_text, trove_bytes
-from tools.model.texts import Refused, flavor_of
-from tools.model.trees import Refused as Stopped
+from tools.model.texts import flavor_of
 
 TABLE, LABELS = Rows("completions"), {"D": LABEL, "S": STABLE}
-
-
-def answer(call):
-    try:
-        return call()
-    except (Refused, Stopped) as refused:
-        return str(refused)
-
-
-def line(call, *fields):
-    return "\t".join([call, *(field if isinstance(field, str) else field.decode() for field in fields)])
 
 
 class Case:
@@ -48,12 +36,12 @@ class Case:
         config = repository.Config(labels, flavor_of(flavor.encode()))
         asked = line("completed", listed(installed), b";".join(map(id_text, roots)), b";".join(labels), flavor)
         found = lambda: completion.completed(self.catalogue, installed, roots, config)
-        return asked, answer(lambda: line("ok", *(id_text(one.identity) for one in found())))
+        return asked, answered(lambda: line("ok", *(id_text(one.identity) for one in found())))
 
     def wanted(self, lines, labels):
         data, labels = TABLE.bytes(lines), [LABELS[name] for name in labels.split()]
         config = repository.Config(labels, flavor_of(b""))
-        found = answer(lambda: shown(completion.wanted(self.catalogue, completion.read_model(data), config)))
+        found = answered(lambda: shown(completion.wanted(self.catalogue, completion.read_model(data), config)))
         return line("wanted", digits(data), b";".join(labels), ""), found
 
 
@@ -62,7 +50,7 @@ def model(data):
         texts = (word + b" " + (what if word == b"erase" else what.text) for word, what in completion.read_model(data))
         return line("ok", *texts)
 
-    return line("model", digits(data)), answer(said)
+    return line("model", digits(data)), answered(said)
 
 
 def lines():

@@ -3,10 +3,11 @@ of each trove."""
 import sys
 
 from tools.cases.rows import Rows
-from tools.lines.words import digits
+from tools.lines import words
+from tools.lines.words import answered, digits
 from tools.model.lists import by_name, changed, closed, erased, updated
 from tools.model.reports import CHANGES
-from tools.model.streams import Refused, id_text, sha, trove_bytes, trove_of
+from tools.model.streams import id_text, sha, trove_bytes, trove_of
 
 TABLE = Rows("jobs")
 
@@ -22,11 +23,7 @@ def shown(troves):
 def line(call, installed, field, made):
     """A call over a list, its last field, and the answer, or the refusal."""
     installed = by_name(installed)
-    text = f"{call}\t{listed(installed)}\t{field}"
-    try:
-        return text, made(installed)
-    except Refused as refused:
-        return text, str(refused)
+    return words.line(call, listed(installed), field), answered(made, installed)
 
 
 def update(installed, come):

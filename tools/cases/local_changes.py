@@ -1,25 +1,22 @@
 """Lines of list_lines on local changes: trees, installed troves and names, and the change set that has to come of each, by
 tools/model/local_changes.py."""
 from tools.cases.rows import ONE, OTHER, Rows
-from tools.lines.words import Spelled, digits, tree_word
+from tools.lines.words import Spelled, answered, digits, line, tree_word
 from tools.model.local_changes import local_changes
-from tools.model.streams import Fault, Refused, trove_bytes
+from tools.model.streams import trove_bytes
 
 
 def content_word(data):
     return data.term if isinstance(data, Spelled) else digits(data)
 
 
-def line(tree, troves, name, words=""):
+def call(tree, troves, name, words=""):
     """A call and its answer; with `fail` the first call of the disk fails."""
     installed = {trove.identity.name: trove for trove in troves}
     lists = ";".join(digits(trove_bytes(installed[one])) for one in sorted(installed))
-    try:
-        text = "" if words == "fail" else local_changes(tree, installed, name)
-        answer = "failed" if words == "fail" else f"{len(text)} {text.hex()}"
-    except (Refused, Fault) as why:
-        answer = str(why)
-    return "\t".join(["local", words, tree_word(tree, content_word), lists, name.decode()]), answer
+    found = "failed" if words == "fail" else answered(local_changes, tree, installed, name)
+    answer = found if isinstance(found, str) else f"{len(found)} {found.hex()}"
+    return line("local", words, tree_word(tree, content_word), lists, name), answer
 
 
 def data_of(text):
@@ -38,4 +35,4 @@ def lines():
     """The rows of local_changes.txt, each a tree, what is installed, a name, and whether a call of the disk fails."""
     for row in TABLE.rows():
         tree, troves, name, *words = row.split(" | ")
-        yield line(dict(TABLE.nodes(tree)), TABLE.troves(troves), name.encode(), *words)
+        yield call(dict(TABLE.nodes(tree)), TABLE.troves(troves), name.encode(), *words)

@@ -1,20 +1,18 @@
 """Cases of `serve`, `mirror ask` and `mirror take` for command_lines: every request over repositories of all kinds, every fault of both
 streams, and random repositories of which one takes over what it lacks."""
-import random
+import re
 from hashlib import sha1
 
 from tools.cases import commands
 from tools.cases.repositories import tree_of
 from tools.cases.root_examples import WRONG
 from tools.cases.rows import Rows, cooked, id_of
-from tools.cases.samples import ABC, ABCD, BOTH, PICKS, RELATIVE, SET, V1, V2, carried, component, content_at, group, with_node
-from tools.cases.several import batch
-from tools.lines.words import Spelled, digits
+from tools.cases.samples import ABC, ABCD, BOTH, SET, V1, V2, carried, content_at, with_node
+from tools.lines.words import Spelled, digits, rows_of
 from tools.model import repository
 from tools.model.mirrors import CONTENT, LAST_REPLY, LAST_REQUEST, MISSING, NAMED, REPLIES, REQUESTS, SET as SET_REPLY, request_bytes
 from tools.model.relatives import relative_of
-from tools.model.streams import file_of as plain, id_bytes, item, set_bytes
-from tools.model.trees import DIR
+from tools.model.streams import id_bytes, item, set_bytes
 
 # ---- what the rows name
 
@@ -30,6 +28,7 @@ def reply(*sets):
 
 
 FIRST_REPLY, SECOND_REPLY, EMPTY_REPLY = reply(SET), reply(set_bytes([V2], carried(b"abcd"))), reply(set_bytes([], []))
+SAME_REPLY = reply(set_bytes([commands.SAME], carried(b"abc")))
 TABLE = Rows("mirrors", globals(), commands.TABLE.names)
 
 
@@ -58,17 +57,6 @@ def items_of(topic):
 
 
 # ---- cases
-
-
-def serving_cases(script):
-    for name in TABLE.topics["repositories"]:
-        script.disks((), TABLE.names[name]).each(b"serve", *STREAMS.values()).run(b"mirror", b"ask")
-        # What it asks for itself it has, and of another one it lacks the rest.
-        script.each(b"serve", script.made.out)
-    for node in commands.TABLE.all_nodes("damaged contents"):
-        nodes = with_node(BOTH, content_at(b"abc"), node)
-        script.disks((), nodes).each(b"serve", *STREAMS.values()).runs(b"mirror ask", b"rq")
-        script.each(b"mirror take", FIRST_REPLY, EMPTY_REPLY, reply(set_bytes([commands.SAME], carried(b"abc"))))
 
 
 def many_requests(count):
@@ -111,62 +99,9 @@ def taking_cases(script):
             script.disks((), nodes).each(b"mirror take", data, data).runs(b"rq", b"mirror ask")
 
 
-def failing_mirrors(script):
-    """Each call of either disk that fails, all that a crash leaves behind each of them, and the streams that fail."""
-    for words, data, nodes in TABLE.fields("failing"):
-        words, (data,), nodes = words.encode().split(b" "), TABLE.named(data), TABLE.nodes(nodes)
-        for side in ("root", "repo"):
-            script.disks([(b"/etc", DIR)], nodes).input(data).faults(side, *words)
-            for pick in PICKS if b"take" in words else PICKS[1:2]:
-                script.disks((), nodes).input(data).stops(side, pick, *words)
-        for out, err in ((1, 0), (1, 1), (0, 1)):
-            script.disks((), nodes).input(data, 50).sinks(out, err).run(*words)
-            script.run(*words)
-        for fails in range(1, len(data) // 50 + 3):
-            script.disks((), nodes).input(data, 50, fails).run(*words)
-
-
-def mirror_lines(script):
-    """As lines of a batch, and by themselves."""
-    for lines in (
-        [b"mirror ask", (b"serve", STREAMS["MIXED"]), (b"mirror take", SECOND_REPLY), b"mirror ask", (b"mirror take", EMPTY_REPLY), b"rq"],
-        [(b"mirror take", FIRST_REPLY), (b"mirror take", FIRST_REPLY), b"rq"], [(b"serve", STREAMS["ALL"][:9]), b"rq"],
-        [(b"mirror ask", b"not read"), b"serve", b"rq"], [(b"mirror take", reply(SET)[:-1]), b"rq"],
-    ):  # fmt: skip
-        script.disks((), commands.COOKED).fed(batch(*lines), b"batch")
-        script.runs(b"rq", b"q")
-    for words, data in ((b"serve", STREAMS["ALL"]), (b"mirror take", SECOND_REPLY), (b"mirror ask", b""), (b"mirror", b""), (b"serve x", b"")):
-        script.disks((), commands.COOKED).input(data).line(*words.split(b" ")).line(b"rq")
-    script.disks(commands.NO_VAR).input(STREAMS["ALL"], 50, 1).runs(b"serve", b"mirror ask", b"mirror take")
-
-
 # ---- random repositories
 
 TEXTS = [b"text %d" % place for place in range(6)]
-
-
-def random_commits(chance):
-    """Up to six commits of components, and of groups that refer to what is committed before or with them."""
-    commits, there = [], []
-    for number in range(chance.randrange(7)):
-        troves = []
-        for place in range(chance.randrange(1, 4)):
-            name, revision = b"%c:lib" % chance.choice(b"abcd"), b"1.%d-1-1" % chance.randrange(4)
-            files = sorted({b"/%c" % chance.choice(b"xyz"): plain(chance.choice(TEXTS)) for _ in range(chance.randrange(3))}.items())
-            # One id is one trove, whoever commits it.
-            troves.append(KNOWN.setdefault((name, revision), component(name, revision, files)))
-            if chance.randrange(3) == 0:
-                refs = {one.identity.name: one.identity for one in there + troves if one.identity.name[:5] != b"group"}
-                key = (b"group-%c" % chance.choice(b"pq"), b"%d-%d-1" % (number + 1, chance.randrange(1, 3)))
-                troves.append(group(*key, refs.values()))
-        fresh = {one.identity: one for one in troves if one.identity not in {other.identity for other in there}}
-        if fresh:
-            commits.append(list(fresh.values()))
-            there += commits[-1]
-    return commits
-
-
-KNOWN = {}
 
 
 def stored(commits):
@@ -176,15 +111,12 @@ def stored(commits):
 
 def random_mirrors(script):
     """One asks, the other one answers, and what comes is taken: then its own troves stand, and behind them all that it lacked."""
-    for seed in range(100):
-        chance = random.Random(seed)
-        own, far = random_commits(chance), random_commits(chance)
-        script.disks((), stored(own)).run(b"mirror", b"ask")
-        asks = script.made.out
-        names, contents = [(NAMED, name) for name in (b"a:lib", b"group-p")], [(CONTENT, sha1(text).digest()) for text in TEXTS]
-        some = request_bytes(*(chance.choice(names + contents) for _ in range(5)))
+    for row in rows_of(TABLE.topics, "random mirrors"):
+        *both, some, sent = re.split(r" ?\| ?", row)
+        own, far = ([TABLE.troves(one) for one in text.split(" & ") if one] for text in both)
+        asks, some = script.disks((), stored(own)).run(b"mirror", b"ask"), asked(some)
         replies = script.disks((), stored(far)).fed(asks, b"serve")
-        script.each(b"serve", some[:-5] + asks[8:], some[: chance.randrange(len(some))])
+        script.each(b"serve", some[:-5] + asks[8:], some[: int(sent)])
         script.disks((), stored(own)).fed(replies, b"mirror", b"take")
         # Told by the lists alone.
         ids = {trove.identity for troves in own for trove in troves}
@@ -192,10 +124,10 @@ def random_mirrors(script):
         wanted = wanted[: len(ids)] + [one for one in wanted[len(ids) :] if one not in ids]
         found = [trove.identity for trove in repository.load(script.trees["repo"].copy()).troves]
         if script.made.status or found != wanted:
-            WRONG.append(f"mirror of the random repositories {seed}: {script.made.err}")
+            WRONG.append(f"a mirror of random repositories: {script.made.err}: {row}")
         again = script.run(b"mirror", b"ask")
         nothing = script.disks((), stored(far)).fed(again, b"serve")
         script.disks((), stored(own)).each(b"mirror take", replies, nothing)
 
 
-CASES = (serving_cases, bad_request_cases, bad_reply_cases, taking_cases, failing_mirrors, mirror_lines, random_mirrors)
+CASES = ("serving", bad_request_cases, bad_reply_cases, taking_cases, "failing mirrors", "mirrors as lines", random_mirrors)

@@ -5,12 +5,12 @@ what else is given."""
 import itertools
 
 from tools.cases.rows import ONE, OTHER, Rows, content
-from tools.lines.words import digits, node_word, tree_word, word, yes_or_no
+from tools.lines.words import answered, digits, line, node_word, tree_word, word, yes_or_no
 from tools.model.plans import FIXED, all_paths, owned, plan_changes, record, write_set
 from tools.model.records import mark_of, mark_of_record
 from tools.model.reports import finding_line
 from tools.model.root import found_at
-from tools.model.streams import Refused, different_bytes, file_of, flag_letters, flags_of_letters, sha, trove_bytes, trove_of
+from tools.model.streams import different_bytes, file_of, flag_letters, flags_of_letters, sha, trove_bytes, trove_of
 from tools.model.trees import parent_of
 
 PIECE = 65_536
@@ -82,11 +82,6 @@ def troves_field(troves):
     return ";".join(trove_field(name, files) for name, files in sorted(troves.items()))
 
 
-def call_line(call, *arguments, words=""):
-    """A call on a tree: what the disk does, the tree and the rest."""
-    return "\t".join([call, words, *arguments])
-
-
 def rooted(tree):
     return {b"/": D, **tree}
 
@@ -130,15 +125,16 @@ def calls(tree, old, fresh, changes):
 
 def plan_line(tree, old, fresh, *options):
     tree = rooted(tree)
-    line = call_line("plan", tree_word(tree, word), troves_field(old), troves_field(fresh), words=" ".join(options))
+    asked = line("plan", " ".join(options), tree_word(tree, word), troves_field(old), troves_field(fresh))
     if "fail" in options and not any(owned(fresh, path) for path in all_paths(fresh)) and any(compared(old, fresh)):
-        return line, "failed"
-    try:
+        return asked, "failed"
+
+    def made():
         changes = plan_changes(tree, old, fresh, options)
-    except Refused as why:
-        return line, str(why)
-    parts = [f"{path.decode()}: {mark_text(tree.get(path))} -> {want_text(changes[path])}" for path in sorted(changes)]
-    return line, "\t".join(["ok", *parts] + ([calls(tree, old, fresh, changes)] if "calls" in options else []))
+        parts = [f"{path.decode()}: {mark_text(tree.get(path))} -> {want_text(changes[path])}" for path in sorted(changes)]
+        return line("ok", *parts, *([calls(tree, old, fresh, changes)] if "calls" in options else []))
+
+    return asked, answered(made)
 
 
 EVERY = [[], ["replace"], ["keep"], ["keep", "replace"]]
@@ -207,24 +203,24 @@ def mark_lines():
         words = [fields.pop()] if fields[-1] == "fail" else [] if call in ("mark_file", "same", "verified") else [""]
         arguments, answer = MARKS[call](*fields)
         assert wanted in ("", answer), row
-        yield "\t".join([call, *words, *arguments]), "failed" if words == ["fail"] else answer
+        yield line(call, *words, *arguments), "failed" if words == ["fail"] else answer
 
 
 # ---- verifications
 
 def verify_line(tree, troves, names=(), known=(), fails=False):
     known = list(map(data, known))
-    words = b";".join(names).decode(), ";".join(map(word, known))
-    line = call_line("verify", tree_word(tree, word), troves_field(troves), *words, words="fail" if fails else "")
+    given = tree_word(tree, word), troves_field(troves), b";".join(names), ";".join(map(word, known))
+    asked = line("verify", "fail" if fails else "", *given)
     absent = [name for name in names if name not in troves]
     if absent:
-        return line, f"not installed {absent[0].decode()}"
+        return asked, f"not installed {absent[0].decode()}"
     paths = [(path, record) for name in sorted(troves) if not names or name in names for path, record in sorted(troves[name].items())]
     if fails and paths:
-        return line, "failed"
+        return asked, "failed"
     found = [(found_at(mark_of_record(record), rooted(tree).get(path), known), path) for path, record in paths]
     texts = [finding_line(*one).decode()[:-1] for one in found if one[0] is not None]
-    return line, "|".join(texts + [f"verified {len(paths)} paths, {len(texts)} changed", "", ""])
+    return asked, "|".join(texts + [f"verified {len(paths)} paths, {len(texts)} changed", "", ""])
 
 
 def verify_row(row):
@@ -251,19 +247,18 @@ def targets_line(options, tree, old, fresh, carried=(), far=(), now=None):
     """A write set, where `now` stands."""
     tree, carried, far = rooted(tree), list(map(data, carried)), list(map(data, far))
     far_field = "!fails" if "far-fails" in options else "!damaged" if "far-damaged" in options else ";".join(map(word, far))
-    line = call_line(
-        "targets", tree_word(tree, word), troves_field(old), troves_field(fresh), "=" if now is None else tree_word(now, word),
-        ";".join(map(word, sorted(set(carried), key=sha))), far_field,
-        words=" ".join(one for one in options if not one.startswith("far-")),
-    )
-    try:
+    contents = ";".join(map(word, sorted(set(carried), key=sha)))
+    given = tree_word(tree, word), troves_field(old), troves_field(fresh), "=" if now is None else tree_word(now, word), contents, far_field
+    asked = line("targets", " ".join(one for one in options if not one.startswith("far-")), *given)
+
+    def made():
         changes = plan_changes(tree, old, fresh, options)
-        stood, wants, asked = write_set(tree, changes, now or tree, carried, far, options)
-    except Refused as why:
-        return line, str(why)
-    marks = {path: node_word(mark_of_record(want)) for path, want in changes.items()}
-    parts = [f"{path.decode()}: {node_text(stood[path])} -> {node_text(wants[path])} ({marks[path]})" for path in sorted(changes)]
-    return line, "\t".join(["ok", *parts, f"{asked['finds']} finds, {asked['files']} files"])
+        stood, wants, counts = write_set(tree, changes, now or tree, carried, far, options)
+        marks = {path: node_word(mark_of_record(want)) for path, want in changes.items()}
+        parts = (f"{path.decode()}: {node_text(stood[path])} -> {node_text(wants[path])} ({marks[path]})" for path in sorted(changes))
+        return line("ok", *parts, f"{counts['finds']} finds, {counts['files']} files")
+
+    return asked, answered(made)
 
 
 def targets_rows(topic, options=(), carried=(), far=()):

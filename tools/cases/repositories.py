@@ -6,11 +6,11 @@ from hashlib import sha1
 from tools.cases import samples
 from tools.cases.rows import Rows
 from tools.cases.samples import LABEL, V1 as F1, V2 as F2, content_at, file, plain
-from tools.lines.words import items, standing, term, tree_term
+from tools.lines.words import answered, items, line, standing, term, tree_term
 from tools.model import repository
 from tools.model.repository import BASE, CONTENTS, MAGIC, commit_bytes, commit_path
-from tools.model.streams import ChangeSet, id_text, item, read_set, regular, set_bytes
-from tools.model.trees import DIR, Damaged, Failed, Refused, Tree
+from tools.model.streams import id_text, item, read_set, regular, set_bytes
+from tools.model.trees import DIR, Tree
 
 # ---- repositories
 
@@ -147,62 +147,46 @@ def read(call, nodes, words):
 
 
 def read_answer(call, nodes, words):
-    far = "far " if call == "source" else ""
-    try:
+    def made():
         found = read(call, nodes, words)
-    except Damaged as damage:
-        return far + "damaged " + damage.args[0].decode()
-    except Failed:
-        return far + "failed"
-    return "none" if found is None else "\t".join(map(str, ["ok", *found]))
+        return "none" if found is None else line("ok", *found)
+
+    text = answered(made)
+    return "far " + text if call == "source" and text.startswith(("damaged", "failed")) else text
 
 
 def committed(tree, catalogue, text):
     """What the commit of a change set answers."""
-    try:
-        made = repository.commit(tree, catalogue, ChangeSet(*read_set(text)))
-    except Refused as refusal:
-        return refusal.args[0].decode()
-    except Damaged as damage:
-        return "damaged " + damage.args[0].decode()
-    return " ".join(["ok", *(id_text(one).decode() for one in made)])
+    return answered(lambda: " ".join(["ok", *(id_text(one).decode() for one in repository.commit(tree, catalogue, read_set(text)))]))
 
 
 def counts(catalogue):
     return f"{len(catalogue.commits)} {len(catalogue.troves)}"
 
 
-def is_there(tree, catalogue, name):
-    try:
-        return repository.content_of(tree, catalogue, name) is not None
-    except Damaged:
-        return False
-
-
 def held(tree):
     """How many commits and troves a tree has, and how many records of files whose contents are there."""
     catalogue = repository.load(tree)
     names = [record.name for trove in catalogue.troves for _, record in trove.files if record.kind == "f"]
-    return f"{counts(catalogue)} {sum(is_there(tree, catalogue, name) for name in names)}"
+    return f"{counts(catalogue)} {sum(isinstance(answered(repository.content_of, tree, catalogue, name), bytes) for name in names)}"
 
 
 def commit_answer(nodes, texts):
     tree = Tree(nodes)
-    try:
-        catalogue = repository.load(tree)
-    except Damaged as damage:
-        return "damaged " + damage.args[0].decode()
+    catalogue = answered(repository.load, tree)
+    if isinstance(catalogue, str):
+        return catalogue
     said = [committed(tree, catalogue, text) for text in texts]
     stored = {path: node for path, node in tree.nodes.items() if not repository.JOURNAL.is_own(path)}
-    return "\t".join([*said, counts(catalogue), held(tree), standing(stored)])
+    return line(*said, counts(catalogue), held(tree), standing(stored))
 
 
 def lines():
     """Each line with its answer."""
     sizes = [len(read("between", WORKED, ends)[0]) // 2 for ends in (([], [F2]), ([], [F1]), ([F1], [F2]), ([], []))]
     assert sizes == [169, 168, 207, 13]
-    yield from (("\t".join([call, tree_term(nodes), *map(argument, words)]), read_answer(call, nodes, words)) for call, nodes, words in reading())
+    yield from ((line(call, tree_term(nodes), *map(argument, words)), read_answer(call, nodes, words)) for call, nodes, words in reading())
     # They take the troves and trees of this file.
     from tools.cases import commits
 
-    yield from (("\t".join(["commit", tree_term(nodes), *map(term, texts)]), commit_answer(nodes, texts)) for nodes, texts in commits.calls())
+    yield from ((line("commit", tree_term(nodes), *map(term, texts)), commit_answer(nodes, texts)) for nodes, texts in commits.calls())

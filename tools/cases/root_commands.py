@@ -5,12 +5,11 @@ root_commands.txt.
 import hashlib
 import itertools
 
-from tools.cases import samples
-from tools.cases.root_examples import ABX, CLASHED, CLASHING, FOO, M, M2, WRONG, Examples
+from tools.cases import root_examples
+from tools.cases.root_examples import FOO, M, M2, WRONG, Examples
 from tools.cases.rows import Rows
 from tools.cases.samples import (
-    ABC, BASE, BOTH, COOKED, ETC, F2, GATE, GROUP, LABEL, LONGER_SPEC, LONG_SPEC, NO_VAR, PICKS, SET, V1, V2, carried, component,
-    content_at, cooked, file, log_of, manifest, plain, with_node,
+    ABC, ETC, GROUP, LABEL, LONGER_SPEC, LONG_SPEC, NO_VAR, SET, V1, V2, carried, component, content_at, cooked, file, log_of, manifest, plain,
 )  # fmt: skip
 from tools.model import program
 from tools.model.records import DATABASE, database_bytes
@@ -21,9 +20,16 @@ from tools.model.trees import DIR
 NEW_1, NEW_2 = b"1.0-1-1", b"1.0-2-1"
 LONG_LABEL, A_AND_B = b"/" + b"h" * 200 + b"@n:t", [b"file 0644 1 /a", b"1", b"file 0644 1 /b", b"2"]
 LONG_VERSION = manifest(b"foo:runtime", b"1" * 60 + b"-1-1", A_AND_B, label=LONG_LABEL + b"/1.0-1-1" + LONG_LABEL)
-LONG_NAME, GOOD = b"n" * 256, database_bytes(2, [V1], 1, 1)
+LONG_NAME, LONGEST_NAME, LONG_SPEC_WORD, LONGEST_WORD = b"n" * 256, b"n" * 255, LONG_SPEC.encode(), LONGER_SPEC.encode()
+GOOD, AT_ABC = database_bytes(2, [V1], 1, 1), content_at(b"abc")
+CUT_GOOD, GOOD_3 = GOOD[:-1], GOOD.replace(b"CNYDB02", b"CNYDB03")
+GOOD_4097, GOOD_0 = (database_bytes(2, [V1], *numbers) for numbers in ((1, 4097), (0, 1)))
+# A content that comes with its trove, or from elsewhere; one of another size; and what leads to the second version, without its content.
+WANTED_FOO, OTHER_FOO = (component(b"foo:runtime", b"1.0-3-1", [ETC, (FOO, regular(0o600, 0, size, ABC))]) for size in (3, 4))
+WANTED, BARE_WANTED, OTHER_SIZE = set_bytes([WANTED_FOO], carried(b"abc")), set_bytes([WANTED_FOO], []), set_bytes([OTHER_FOO], [])
+BARE = set_bytes([relative_of(V1, V2)], [])
 DATABASE_LOG = log_of([(DATABASE, file(GOOD, 0o644))])
-TABLE = Rows("root_commands", globals(), samples.TABLE.names)
+TABLE = Rows("root_commands", globals(), root_examples.TABLE.names)
 BAR, FREE_BAR = TABLE.named("BAR FREE_BAR")
 
 # ---- words
@@ -32,31 +38,17 @@ BAR, FREE_BAR = TABLE.named("BAR FREE_BAR")
 def word_cases(script):
     """Words are looked at before anything else: neither the missing `/var` nor a call that would fail is noticed."""
     some = Examples(script)
-    for topic in ("words", "long words"):
-        for row in TABLE.topics[topic]:
-            script.disks(NO_VAR, (), 1, 1).input(b"x", 1, 1).sinks(1, 0)
-            words = TABLE.lines(row.split())
-            script.run(*words)
-            some.name = "words"
-            some.compare(row, (2, b"", program.USAGE))
-    # The longest name and the longest specification are words; the most words of a call, and one more.
-    for words in ([b"q", b"n" * 255], [b"update", LONG_SPEC.encode()], [b"update", LONGER_SPEC.encode()]):
-        script.disks().run(*words)
+    some.name = "words"
+    for row in TABLE.topics["words"] + TABLE.topics["long words"]:
+        script.disks(NO_VAR, (), 1, 1).input(b"x", 1, 1).sinks(1, 0)
+        TABLE.say(script, row)
+        some.compare(row, (2, b"", program.USAGE))
+
+
+def most_word_cases(script):
+    """The most words of a call, and one more."""
     for count in (64, 65, 1023, 1024):
         script.disks().runs(*([word] + [b"foo"] * count for word in (b"verify", b"erase", b"update")))
-
-
-# ---- packages
-
-
-def changing_cases(script):
-    """What stands at a path of two versions: each kind in the place of each, as it was installed and edited."""
-    kinds = {name: TABLE.lines(some) for name, *some in TABLE.fields("what stands at a path")}
-    for old, new in itertools.product(kinds, kinds):
-        for edit in [None, ABX] if old in ("file", "config") else [None]:
-            script.disks().installs(manifest(b"foo:runtime", NEW_1, kinds[old])).edit("root", [] if edit is None else [(b"/k", edit)])
-            script.fed(manifest(b"foo:runtime", NEW_2, kinds[new]), b"install", *([] if edit is None else [b"--keep"]))
-            script.run(b"rollback")
 
 
 # ---- refusals of jobs, each alone and each two at once
@@ -130,18 +122,8 @@ def change_set_refusals(script):
     script.disks().installs(M).each(b"update -", *(set_bytes(parts, carried(*contents)) for parts, contents in sets))
 
 
-def content_cases(script):
-    """Where a content comes from: the change set, the repository, the path itself; and another one of its name, or of its size."""
-    wanted = component(b"foo:runtime", b"1.0-3-1", [ETC, (FOO, plain(b"abc", 0o600))])
-    other_size = component(b"foo:runtime", b"1.0-3-1", [ETC, (FOO, regular(0o600, 0, 4, ABC))])
-    for installed, repo_edits in itertools.product((M, M2), ([], COOKED)):
-        for part, contents in ((wanted, [b"abc"]), (wanted, []), (other_size, [])):
-            script.disks((), repo_edits).installs(installed).fed(set_bytes([part], carried(*contents)), b"update", b"-")
-    # A content that a job needs is damaged in the repository, or one that it doesn't need.
-    for node in (None, file(b"abX"), DIR):
-        for words in TABLE.all_words("calls that need a content"):
-            script.disks((), with_node(BOTH, content_at(b"abc"), node)).installs(M).edit("root", [(FOO, ABX)]).fed(M2, *words)
-    # Old bytes that share their name with other ones.
+def collision_cases(script):
+    """Old bytes that share their name with other ones."""
     TABLE.say_all(script, "collision")
     expect_first(script, ("collision",))
 
@@ -177,10 +159,6 @@ def erase_refusals(script):
                 script.edit("root", edits[one])
         names = [b"new:runtime"] + ([b"none", b"nor"] if "missing" in some else [])
         script.runs([b"erase", *names], [b"erase", b"--replace", *names], [b"rollback"])
-    # Packages and groups: what goes with a name, and what another name keeps.
-    for names in TABLE.all_words("erased names"):
-        script.disks().installs(M, FREE_BAR, GROUP).runs([b"erase", *names], [b"q"])
-        script.installs(BAR).runs([b"erase", *names], [b"rblist"])
 
 
 def rollback_refusals(script):
@@ -189,8 +167,6 @@ def rollback_refusals(script):
     for some in some_of(faults):
         for words in ([b"rollback"], [b"rollback", b"r.1"], [b"rblist"], [b"q"])[: 4 if len(some) == 1 else 2]:
             script.disks().installs(M, M2).edit("root", [edit for one in some for edit in faults[one]]).run(*words)
-    # A parent that isn't a directory any more: the job removed a directory and what stood in it.
-    TABLE.say_all(script, "parents that are gone")
 
 
 def reading_cases(script):
@@ -202,73 +178,11 @@ def reading_cases(script):
             made = script.run(*TABLE.lines(row.split()))
             if row.startswith("localcs") and made:
                 script.fed(made, b"showcs")
-    # A version that is too long for a branch, and edits of which two contents have one name.
-    TABLE.say_all(script, "local changes")
-
-
-def damage_cases(script):
-    """Databases that are damaged, before each command, also one that is refused or whose input fails."""
-    numbers = [file(database_bytes(2, [V1], oldest, newest)) for oldest, newest in ((1, 4097), (0, 1))]
-    damages = [file(GOOD[:-1]), file(GOOD + b"x"), file(b""), DIR, ("link", b"x"), file(GOOD.replace(b"CNYDB02", b"CNYDB03")), *numbers]
-    for node in damages:
-        script.disks([(BASE, DIR), (DATABASE, node)]).input(M, 50, 1).runs(*TABLE.all_words("commands over a damaged database"))
-    # The flag of a change that was cut off is set, and its log puts another database; where both disks are damaged, the root is read first.
-    TABLE.say_all(script, "other databases")
-
-
-# ---- calls that are cut off, and calls that fail
-
-# The manifests that are installed first, an edit, the nodes of the repository, the words and the input.
-CHANGING = [
-    (TABLE.named(before), TABLE.nodes(edit), TABLE.nodes(nodes), TABLE.lines(words.split()), *TABLE.named(data))
-    for before, edit, nodes, words, data in TABLE.fields("calls that change")
-]
-READING = TABLE.all_words("calls that read a root")
-
-
-def with_root(script, row):
-    before, edit, repo_edits, words, data = row
-    script.disks((), repo_edits).installs(*before).edit("root", edit).input(data)
-    return words
-
-
-def crash_cases(script):
-    for row in CHANGING:
-        for pick in PICKS:
-            script.stops("root", pick, *with_root(script, row))
-    for words in READING:
-        script.stops("root", 1, *with_root(script, ([M], [(FOO, ABX)], COOKED, words, b"")))
-    # Cut off behind each call of the repository, from which a content comes.
-    bare = set_bytes([relative_of(V1, V2)], [])
-    for edit, words, data in (([], [b"update", F2], b""), ([], [b"update", b"-"], bare), ([(FOO, ABX)], [b"verify", b"--full"], b"")):
-        script.stops("repo", 1, *with_root(script, ([M], edit, BOTH, words, data)))
-
-
-def late_cases(script):
-    """A job that is cut off around the write of its flag; then other programs put nodes, or another command is cut off too."""
-    replacing = CHANGING[1]
-    for before, pick in itertools.product((1, 0, -1), PICKS):
-        for edit in map(TABLE.nodes, TABLE.topics["late edits"]):
-            words = with_root(script, replacing)
-            script.cut_at("root", pick, -before, "append", GATE, *words)
-            script.edit("root", edit).runs(b"q", b"verify", b"rollback")
-    for pick, then in itertools.product(PICKS, TABLE.all_words("calls behind one that was cut off")):
-        words = with_root(script, replacing)
-        script.cut_at("root", pick, 1, "append", GATE, *words)
-        script.stops("root", PICKS[pick == 0], *then)
-
-
-def fault_cases(script):
-    for row in CHANGING + [([M], [(FOO, ABX)], COOKED, words, b"") for words in READING]:
-        for side in ("root", "repo"):
-            script.faults(side, *with_root(script, row))
-        for out, err in ((1, 0), (1, 1)):
-            words = with_root(script, row)
-            script.sinks(out, err).run(*words)
-    TABLE.say_all(script, "failing inputs")
 
 
 CASES = (
-    word_cases, changing_cases, "packages and groups", install_refusals, change_set_refusals, content_cases, spec_refusals, erase_refusals,
-    rollback_refusals, reading_cases, damage_cases, crash_cases, late_cases, fault_cases,
+    word_cases, "the longest words", most_word_cases, "kinds that change at a path", "packages and groups", install_refusals, change_set_refusals,
+    "sources of contents", collision_cases, spec_refusals, erase_refusals, "erasures of packages and groups", rollback_refusals,
+    "parents that are gone", reading_cases, "local changes", "damaged databases", "other databases", "crashes of jobs", "late changes",
+    "failing jobs", "failing inputs",
 )  # fmt: skip

@@ -1,5 +1,6 @@
 """The rows of tables, plain text files beside this one, and what stands in them: bytes, nodes, records, troves, manifests, and steps of a
 script (tools/lines/script.py)."""
+import itertools
 import pathlib
 import re
 from collections import ChainMap
@@ -96,14 +97,20 @@ def cooked(*manifests):
     return committed(*(ChangeSet(*manifest_of(data)) for data in manifests))
 
 
+def batch(*lines):
+    """A batch of lines: words, or words with an input."""
+    pairs = (one if isinstance(one, tuple) else (one, None) for one in lines)
+    return b"".join(words + b"\n" if data is None else b"%s <%d\n%s\n" % (words, len(data), data) for words, data in pairs)
+
+
 class Rows:
     """A table, and what its rows name: the texts, manifests, troves and nodes of these topics, and values of modules, also those that a
-    module has for its rows alone. In bytes `{NAME}` is such a value, `{NONE}` no bytes, `%` and two digits a byte, and an escape what it is
-    in Python. `data` reads the bytes of files."""
+    module has for its rows alone. In bytes `{NAME}` is such a value, `{NAME:9}` the first 9 bytes of it, `{NONE}` no bytes, `%` and two digits a
+    byte, and an escape what it is in Python. `data` reads the bytes of files."""
 
     def __init__(self, name, *modules, data=None):
         self.topics, self.names, self.data = table(name), ChainMap({"NONE": b"", "nothing": []}, *modules), data or self.word
-        for topic, made in (("texts", self.bytes), ("manifests", self.manifest), ("troves", self.trove), ("nodes", self.nodes)):
+        for topic, made in (("texts", self.bytes), ("manifests", self.manifest), ("troves", self.trove), ("nodes", self.nodes), ("named batches", self.batch)):
             for key, *fields in self.fields(topic):
                 self.names[key] = made(*fields)
 
@@ -129,7 +136,7 @@ class Rows:
 
     def bytes(self, text):
         escaped = unquote_to_bytes(text).decode("unicode_escape").encode("latin-1")
-        return re.sub(rb"\{(\w+)\}", lambda found: self.names[found[1].decode()], escaped)
+        return re.sub(rb"\{(\w+)(?::(\d+))?\}", lambda found: self.names[found[1].decode()][: found[2] and int(found[2])], escaped)
 
     def word(self, text):
         """Bytes, `-` for none."""
@@ -222,10 +229,29 @@ class Rows:
         """Troves with ` + ` between two."""
         return [self.trove(one) for one in text.split(" + ") if one]
 
+    def call(self, text):
+        """The words of a call, and the input behind `<`, if there is one; `run` is one without words."""
+        words, is_fed, data = text.partition(" < ")
+        return [] if words == "run" else self.lines(words.split(" ")), self.bytes(data) if is_fed else None
+
+    def batch(self, text):
+        """A batch of lines with ` & ` between two."""
+        return batch(*((b" ".join(words), data) for words, data in map(self.call, filter(None, text.split(" & ")))))
+
+    def event(self, text):
+        """An event of Script.play: an edit, or a call, which `stop` and three numbers stand before where it is stopped."""
+        verb, _, rest = text.partition(" ")
+        if verb == "edit":
+            return verb, *self.nodes(rest)[0]
+        *stops, call = rest.split(" ", 3) if verb == "stop" else [text]
+        words, data = self.call(call)
+        return "stopped" if stops else "call", *map(int, stops), words, data or b""
+
     def say(self, script, row):
         """A step: `disks` with what is put into the root and into the repository, and the calls of them that fail; an edit of the root; an
         input, of which a call takes so many bytes and of which a call fails; the sinks that fail; a call of the program that is cut off
-        behind a call of a disk, or behind each of them, or of which each call of a disk fails; or a call, whose input stands behind `<`."""
+        behind a call of a disk, or behind each of them, or of which each call of a disk fails; a history; a line by itself, or lines as a batch;
+        or a call, after which WRITTEN is what it wrote."""
         verb, _, rest = row.partition(" ")
         match verb:
             case "disks":
@@ -247,12 +273,44 @@ class Rows:
             case "faults":
                 side, *words = rest.split(" ")
                 script.faults(side, *self.lines(words))
+            case "play":
+                script.play(*map(self.event, rest.split(" & ")))
+            case "line":
+                script.line(*self.lines(rest.split()))
+            case "lines":
+                script.fed(self.batch(rest), b"batch")
             case _:
-                words, is_fed, data = row.partition(" < ")
-                if is_fed:
-                    script.input(self.bytes(data))
-                script.run(*self.lines(words.split(" ")))
+                words, data = self.call(row)
+                if data is not None:
+                    script.input(data)
+                self.names["WRITTEN"] = script.run(*words)
 
     def say_all(self, script, topic):
-        for row in self.topics[topic]:
-            self.say(script, row)
+        self.say_rows(script, rows_of(self.topics, topic))
+
+    def say_rows(self, script, rows):
+        for step in self.steps(rows):
+            self.say(script, step)
+
+    def steps(self, rows):
+        """The steps of rows, of which each may have several, with ` // ` between two. Those that stand farther in behind `for $X in A; B`, `for $X of
+        TOPIC; TOPIC` or `for $X range 9` come for each of these texts, rows of topics or numbers; of `for $X | $Y` each has so many fields."""
+        while rows:
+            row, *rows = rows
+            if not (found := re.fullmatch(r"( *)for ([$\w |]+?) (in|of|range) (.*)", row)):
+                yield from filter(None, row.strip(" ").split(" // "))
+                continue
+            inside = list(itertools.takewhile(lambda one: one.startswith(found[1] + "  "), rows))
+            rows, names = rows[len(inside) :], found[2].split(" | ")
+            for one in self.each(found[3], found[4]):
+                text = "\n".join(inside)
+                for name, value in zip(names, re.split(r" ?\| ?", one) if len(names) > 1 else [one], strict=True):
+                    text = text.replace(name, value)
+                yield from self.steps(text.split("\n"))
+
+    def each(self, how, some):
+        """What a row of `for` is about."""
+        if how == "range":
+            return map(str, range(*map(int, some.split())))
+        texts = re.split("; ?", some)
+        return texts if how == "in" else [row for topic in texts for row in rows_of(self.topics, topic)]

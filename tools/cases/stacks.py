@@ -6,9 +6,9 @@ import itertools
 
 from tools.cases.rows import Rows
 from tools.cases.states import (
-    BASE, BY_HAND_2, DATABASE, ETC, FIXED, FOO, FOO_2, ONE, RECORD_BY_HAND, TWO, V2, answered, line, stashable_lines, tree_text, trove,
+    BASE, BY_HAND_2, DATABASE, ETC, FIXED, FOO, FOO_2, ONE, RECORD_BY_HAND, TWO, V2, stashable_lines, tree_text, trove,
 )  # fmt: skip
-from tools.lines.words import bytes_word, placed, standing, tree_word
+from tools.lines.words import answered, bytes_word, line, placed, standing, tree_word
 from tools.model import stacks
 from tools.model.records import (
     CAME, LISTED, NOTHING, TURNED, WAS, Db, Record, content_path, database_bytes, mark_of, read_record, record_bytes, record_path,

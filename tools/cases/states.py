@@ -4,7 +4,7 @@ The answers come from tools/model/records.py and tools/model/stacks.py, readings
 import itertools
 
 from tools.cases.rows import LABEL, ONE, OTHER as TWO, Rows
-from tools.lines.words import bytes_word, node_word, placed, tree_word
+from tools.lines.words import answered, bytes_word, line, node_word, placed, tree_word
 from tools.model import stacks
 from tools.model.records import (
     BASE, CAME, DATABASE, DATABASE_END, DATABASE_MAGIC, EMPTY, END, ENTRY, LISTED, MAGIC, NOTHING, NUMBER, NUMBERS, TROVE, TURNED, WAS, Db,
@@ -13,29 +13,15 @@ from tools.model.records import (
 )  # fmt: skip
 from tools.model.relatives import relative_of
 from tools.model.stacks import file
-from tools.model.streams import NotOfForm, Owner, directory, file_of, id_text, item, link, relative_bytes, trove_bytes, trove_of
-from tools.model.trees import DIR, Damaged, Refused
+from tools.model.streams import Owner, directory, file_of, id_text, item, link, relative_bytes, trove_bytes, trove_of
+from tools.model.trees import DIR, Refused
 
 # The directories in which a root has its files.
 FIXED = {path: DIR for path in (b"/", b"/var", b"/var/lib", BASE)}
 
 
-def line(call, *arguments):
-    return "\t".join([call, *map(str, arguments)])
-
-
 def tree_text(nodes):
     return tree_word({**FIXED, **nodes})
-
-
-def answered(call, *given):
-    """The answer of a call of the model, or the text of its refusal or damage."""
-    try:
-        return call(*given)
-    except Damaged as damaged:
-        return "damaged " + damaged.args[0].decode()
-    except Refused as refused:
-        return str(refused)
 
 
 # ---- databases
@@ -72,10 +58,7 @@ def db_text(db):
 
 
 def decode(text):
-    try:
-        return db_text(read_database(text))
-    except NotOfForm:
-        return "bad"
+    return answered(lambda: db_text(read_database(text)))
 
 
 def load_line(node):
@@ -184,13 +167,12 @@ def delta_text(tag, value):
 
 
 def record_line(kind, text):
-    try:
+    def made():
         record = read_record(text, kind)
-        entries = [f"{path.decode()} from {node_word(before)} to {node_word(after)}" for path, before, after in record.entries]
-        answer = "\t".join([str(record.number), *(delta_text(*delta) for delta in record.deltas), *entries])
-    except NotOfForm:
-        answer = "bad"
-    return line("record", kind, bytes_word(text)), answer
+        entries = (f"{path.decode()} from {node_word(before)} to {node_word(after)}" for path, before, after in record.entries)
+        return line(record.number, *(delta_text(*delta) for delta in record.deltas), *entries)
+
+    return line("record", kind, bytes_word(text)), answered(made)
 
 
 def record_lines():

@@ -5,15 +5,13 @@ are `model/trees.py`, `model/runs.py` and `model/packs.py`. Here is how a line i
 import itertools
 
 from tools.cases import disks, journals, logs, packs
-from tools.lines.words import digits, items, node_term, node_word, placed, puts_term, say, shown, standing, term, terms, tree_term
+from tools.lines.words import (
+    answered, digits, items, line, node_term, node_word, placed, puts_term, say, shown, standing, term, terms, tree_term, yes_or_no,
+)  # fmt: skip
 from tools.model import runs
 from tools.model.packs import packed
-from tools.model.streams import NotOfForm, is_path, rises, sha
+from tools.model.streams import is_path, rises, sha
 from tools.model.trees import Collision, Disk, Failed, Journal, NotAllowed, Tree, clear, is_of, is_tree, joined, read_whole
-
-
-def line(call, arguments):
-    return "\t".join([call, *arguments])
 
 
 # ---- the script of a disk
@@ -63,7 +61,7 @@ class Steps:
         if is_good:
             self.disk = Disk(dict(nodes), fails)
         answer = "ok" if is_good else "no tree"
-        self.lines.append((line("new", [puts_term(nodes), items(fails)]), answer))
+        self.lines.append((line("new", puts_term(nodes), items(fails)), answer))
         return answer
 
     def add(self, name, *words):
@@ -78,7 +76,7 @@ class Steps:
         parts = [told(one) for one in more]
         if first == "is":
             parts = [f"{part} {path.decode()}" for part, path in zip(parts, rest[call != "at" :], strict=True)]
-        self.lines.append((line(call, disk_arguments(call, rest)), "\t".join([first, *parts])))
+        self.lines.append((line(call, *disk_arguments(call, rest)), line(first, *parts)))
         return " ".join([first, *map(quoted, more)])
 
     # ---- what is told or set without a call
@@ -161,37 +159,34 @@ class Steps:
 
 # ---- write sets and their logs, and the journal: how each call writes its arguments, and what it answers
 
-def yes_or_no(answers):
-    return "\t".join("yes" if answer else "no" for answer in answers)
+def each_holds(answers):
+    return line(*map(yes_or_no, answers))
 
 
 def decoded(base, data):
     """What a log tells. Paths and targets stand as they are."""
-    try:
-        return "".join(placed(*put) + ";" for put in Journal(base).read_log(data)) + "\t" + data.hex()
-    except NotOfForm:
-        return "bad"
+    return answered(lambda: "".join(placed(*put) + ";" for put in Journal(base).read_log(data)) + "\t" + data.hex())
 
 
 def staged_paths(directory, numbers):
     paths = [joined(directory, b"%d" % number) for number in numbers]
-    return "\t".join(path.decode() if is_path(path) else "bad" for path in paths)
+    return line(*(path if is_path(path) else "bad" for path in paths))
 
 
 def run_text(run):
     calls = "".join("sync;" if path is None else f"{what} {path.decode()};" for what, path in run.tree.made)
-    return "\t".join([run.end, calls, standing(run.tree.nodes)])
+    return line(run.end, calls, standing(run.tree.nodes))
 
 
 def crash_text(nodes, puts, calls, pick):
     image = runs.applied(nodes, puts, calls).tree.crash(pick)
     ended = runs.recovered(image)
     before, after = (standing(runs.stored(one)) for one in (image, ended.tree))
-    return "\t".join([before, ended.end, after])
+    return line(before, ended.end, after)
 
 
 def seen_text(nodes, path):
-    return "\t".join(placed(path, node) for node in nodes)
+    return line(*(placed(path, node) for node in nodes))
 
 
 def texts_word(texts):
@@ -211,21 +206,21 @@ def pack_text(name, version, flavor, config, requires, provides, skip, sink_fail
 CALLS = {
     "encode": ([puts_term], lambda puts: logs.logged(puts).hex() if rises([path for path, _ in puts]) else "none"),
     "decode": ([term, lambda data: digits(data) if data else ""], decoded),
-    "rules": ([term, puts_term], lambda base, puts: yes_or_no([Journal(base).keeps_rules(puts)])),
-    "named": ([term, terms], lambda base, paths: yes_or_no(map(Journal(base).can_be_named, paths))),
-    "contains": ([puts_term, terms], lambda puts, paths: yes_or_no(path in dict(puts) for path in paths)),
-    "kept": ([puts_term, terms], lambda puts, names: yes_or_no(name in Journal.kept(puts) for name in names)),
-    "numbers": ([puts_term, items], lambda puts, numbers: yes_or_no(b"%d" % number in Journal.kept(puts) for number in numbers)),
+    "rules": ([term, puts_term], lambda base, puts: each_holds([Journal(base).keeps_rules(puts)])),
+    "named": ([term, terms], lambda base, paths: each_holds(map(Journal(base).can_be_named, paths))),
+    "contains": ([puts_term, terms], lambda puts, paths: each_holds(path in dict(puts) for path in paths)),
+    "kept": ([puts_term, terms], lambda puts, names: each_holds(name in Journal.kept(puts) for name in names)),
+    "numbers": ([puts_term, items], lambda puts, numbers: each_holds(b"%d" % number in Journal.kept(puts) for number in numbers)),
     "staged": ([term, items], staged_paths),
-    "is_staged": ([term, items], lambda base, numbers: yes_or_no(is_path(Journal(base).staged_path(number)) for number in numbers)),
+    "is_staged": ([term, items], lambda base, numbers: each_holds(is_path(Journal(base).staged_path(number)) for number in numbers)),
     "apply": ([tree_term, puts_term, str], lambda nodes, puts, failing: run_text(runs.applied(nodes, puts, failing=failing))),
     "recover": ([tree_term, term, str], lambda nodes, *given: run_text(runs.recovered(Tree(nodes), *given))),
     "see": ([tree_term, puts_term, str, term], lambda *given: seen_text(runs.seen_in_apply(*given), given[-1])),
     "see_again": ([tree_term, puts_term, str, str, term], lambda *given: seen_text(runs.seen_in_recovery(*given), given[-1])),
     "crash_in": ([tree_term, puts_term, str, str], crash_text),
-    "images": ([tree_term, puts_term, str, str], lambda *given: "\t".join(map(str, runs.images_found(*given).values()))),
+    "images": ([tree_term, puts_term, str, str], lambda *given: line(*runs.images_found(*given).values())),
     "pack": ([*3 * [bytes.decode], texts_word, deps_word, deps_word, lambda skip: "skip" * skip, str, str, tree_term], pack_text),
-    "cuts": ([tree_term, puts_term, str, items], lambda *given: "\t".join(map(str, journals.checked_cuts(*given)))),
+    "cuts": ([tree_term, puts_term, str, items], lambda *given: line(*journals.checked_cuts(*given))),
 }
 
 
@@ -235,7 +230,7 @@ def lines():
     yield from steps.lines
     for call, *given in itertools.chain(logs.cases(), *(cases() for cases in journals.CASES), packs.cases()):
         written, answer = CALLS[call]
-        yield line(call, [write(one) for write, one in zip(written, given, strict=True)]), lambda: answer(*given)
+        yield line(call, *(write(one) for write, one in zip(written, given, strict=True))), lambda: answer(*given)
 
 
 if __name__ == "__main__":

@@ -6,6 +6,9 @@ import itertools
 import re
 import sys
 
+from tools.model.streams import NotOfForm, Refused
+from tools.model.trees import Damaged, Failed
+
 LONGEST_SHOWN, LONGEST_NAMED = 40, 1_000_000
 MOST_TIMES, LONG_RUN = 1_000_000, 1_000
 PLAIN = re.compile(rb"(?!0x)[A-Za-z0-9/][A-Za-z0-9/._-]*")
@@ -115,6 +118,25 @@ def rows_of(table, topic):
 
 def yes_or_no(holds):
     return "yes" if holds else "no"
+
+
+def line(*fields):
+    """The fields of a line."""
+    return "\t".join(field.decode() if isinstance(field, bytes) else str(field) for field in fields)
+
+
+def answered(call, *given):
+    """What a call of a model answers, or why it gives none."""
+    try:
+        return call(*given)
+    except Damaged as damaged:
+        return "damaged " + damaged.args[0].decode()
+    except Failed:
+        return "failed"
+    except Refused as refused:
+        return str(refused)
+    except NotOfForm:
+        return "bad"
 
 
 def shown(data):

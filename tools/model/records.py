@@ -5,7 +5,7 @@ from collections import namedtuple
 
 from tools.model.relatives import relative_of
 from tools.model.streams import (
-    ROOT, NotOfForm, forbidden_path, id_bytes, inner_items, is_path, is_target, item, need, number, read_id, read_relative, read_trove,
+    ROOT, NotOfForm, cached, forbidden_path, id_bytes, inner_items, is_path, is_target, item, need, number, read_id, read_relative, read_trove,
     relative_bytes, rises, sha, str_field, take_str, trove_bytes,
 )  # fmt: skip
 
@@ -53,6 +53,7 @@ def share_dirs_alone(troves):
     return True
 
 
+@cached
 def read_database(text):
     """The troves and the numbers; or NotOfForm where the file fails its grammar or a cross-check."""
     full = text.startswith(DATABASE_MAGIC[2])

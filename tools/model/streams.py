@@ -6,7 +6,7 @@ import hashlib
 from collections import namedtuple
 
 from tools.model.texts import (  # some of these are for those who read streams
-    Id, NotOfForm, Refused, check_id, check_path, has_build, id_bytes, id_of_text, id_text, is_forbidden, is_label, is_name, is_path,
+    Id, NotOfForm, Refused, cached, check_id, check_path, has_build, id_bytes, id_of_text, id_text, is_forbidden, is_label, is_name, is_path,
     is_target, is_word, name_kind, need, read_id, rises, str_field, take_str, whole_dep_of,
 )
 
@@ -175,6 +175,7 @@ def file_value(file, full=False):
     return str_field(path) + record_bytes(record, full)
 
 
+@cached
 def read_file(text, full=False):
     path, record = take_str(text)
     need(is_path(path))
@@ -212,6 +213,7 @@ def trove_bytes(trove, full=False):
     return head + files + items(5, map(id_bytes, trove.refs)) + items(6, trove.requires) + items(7, trove.provides)
 
 
+@cached
 def read_trove(text, full=False):
     """The stream of a whole trove."""
     found = inner_items(text)

@@ -67,6 +67,7 @@ def is_word(text):
     return matches(WORD, text)
 
 
+@cached
 def name_kind(text):
     """Of a word, or of two with a colon between them, of which the first doesn't begin with `group-`."""
     need(len(text) <= 255 and matches(WORD + b"(:" + WORD + b")?", text))
@@ -82,6 +83,7 @@ def is_line(text):
     return is_utf8(text) and not any(byte < 0x20 or byte == 0x7F for byte in text)
 
 
+@cached
 def check_path(text):
     """`/`, or one or more of `/part`; at most 1,024 bytes."""
     are_parts = all(1 <= len(part) <= 255 and part not in (b".", b"..") for part in text[1:].split(b"/"))
@@ -328,6 +330,7 @@ def satisfies(provide, require):
 Id = namedtuple("Id", "name version flavor")
 
 
+@cached
 def check_id(identity):
     """The id, all whose texts are canonical."""
     need(is_name(identity.name))
