@@ -47,8 +47,9 @@ def set_cases(script):
 
 def commit_cases(script):
     """Change sets that are committed or refused."""
-    for data in SETS:
+    for data, says in SETS.items():
         script.disks().fed(data, b"commit")
+        assert says[-1:] in (b"", b"\n") or script.made.err == b"conary: " + says + b"\n"
     for parts in map(TABLE.named, TABLE.topics["commits"]):
         carries = [b"abcd"] if any(name == ABCD for part in parts for name, _ in asked_by(part)) else []
         script.disks((), COOKED).each(b"commit", set_bytes(parts, carried(*carries))).run(b"rq")

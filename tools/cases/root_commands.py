@@ -183,6 +183,6 @@ def reading_cases(script):
 CASES = (
     word_cases, "the longest words", most_word_cases, "kinds that change at a path", "packages and groups", install_refusals, change_set_refusals,
     "sources of contents", collision_cases, spec_refusals, erase_refusals, "erasures of packages and groups", rollback_refusals,
-    "parents that are gone", reading_cases, "local changes", "damaged databases", "other databases", "crashes of jobs", "late changes",
+    "parents that are gone", reading_cases, "local changes", "damaged databases", "other databases", "crashes of calls", "late changes",
     "failing jobs", "failing inputs",
 )  # fmt: skip

@@ -30,6 +30,7 @@ OWNED = M.replace(b"manifest 1", b"manifest 2").replace(b"0755 ", b"0755 root:ro
 # Change sets of 169, 168, 207 and 181 bytes, all but the first of them spelled by hand in cases/streams.py.
 NEWEST, WHOLE, BETWEEN, OWNED_SET = set_bytes([V2], carried(b"abcd")), streams.WHOLE_SET, streams.RELATIVE_SET, streams.OWNED_SET
 BARE = WHOLE.replace(streams.content(b"abc"), b"")
+SHORTER = BARE.replace(b"1.0-1-1", b"1.0-1-2").replace(b"\3" + samples.ABC, b"\4" + samples.ABC)
 assert [len(data) for data in (NEWEST, WHOLE, BETWEEN, OWNED_SET, samples.RELATIVE)] == [169, 168, 207, 181, 207]
 ABC = samples.ABC
 TABLE = Rows("root_examples", globals(), samples.TABLE.names)

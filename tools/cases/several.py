@@ -28,4 +28,4 @@ def scale_cases(script):
         script.tally(0, 5 * packages + 1, "p9:runtime=/demo.example.com@ex:devel/1.0-1-1", b"q")
 
 
-CASES = (refusal_cases, "lines by themselves", "ends of batches", "batches and streams", "batches and disks", "demos", scale_cases)
+CASES = (refusal_cases, "lines by themselves", "ends of batches", "batches and streams", "demos", scale_cases)

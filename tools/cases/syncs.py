@@ -1,5 +1,5 @@
-"""Cases of `update --resolve` and of `sync` for command_lines: refusals in their order, calls that are cut off, of which a call of a disk fails or
-whose output does, and repositories and models that were drawn by chance. The worked examples are in tools/cases/root_examples.txt; these are topics of
+"""Cases of `update --resolve` and of `sync` for command_lines: refusals in their order, outputs that fail, and
+repositories and models that were drawn by chance. The worked examples are in tools/cases/root_examples.txt; these are topics of
 syncs.txt and syncs_drawn.txt."""
 from tools.cases import root_examples
 from tools.cases.rows import Rows
@@ -16,4 +16,4 @@ def drawn_cases(script):
         DRAWN.say_all(script, topic)
 
 
-CASES = ("refused syncs", "syncs that are cut off", "syncs that fail", drawn_cases)
+CASES = ("refused syncs", "syncs that fail", drawn_cases)

@@ -1,6 +1,6 @@
 #!/usr/bin/env python3
 """Prints what the documents tell of the crates and scripts from the sources: the levels of crates.txt, the table of crates, what their
-definitions are about, the clauses of their public functions, and what the scripts do.
+definitions are about, the clauses of their public functions, what the scripts do, and how often commands are stopped.
 
 In a document such a part stands between two lines, `<!-- printed by tools/gate/book.py: NAME -->` and `<!-- end -->`.
 
@@ -13,9 +13,10 @@ import sys
 import textwrap
 
 from clauses import functions
+from counts import stops
 from crates import files_in, named, root_file, text_of
 
-DOCUMENTS = ("CONTRIBUTING.md", "docs/DESIGN.md", "docs/DEFINITIONS.md", "docs/CLAUSES.md")
+DOCUMENTS = ("CONTRIBUTING.md", "docs/DESIGN.md", "docs/DEFINITIONS.md", "docs/CLAUSES.md", "docs/TESTED.md")
 SCRIPTS = ("tools/*.sh", "tools/gate/*", "tools/host/*", "bench/*", "examples/image/*")
 TESTS = re.compile(r"_(words|lines)$")
 PART = re.compile(r"(<!-- printed by tools/gate/book\.py: (\w+) -->)\n.*?<!-- end -->", re.DOTALL)
@@ -86,7 +87,7 @@ def clauses():
     return rows[:-1]
 
 
-PARTS = {"levels": levels, "crates": table, "definitions": definitions, "clauses": clauses, "scripts": scripts}
+PARTS = {"levels": levels, "crates": table, "definitions": definitions, "clauses": clauses, "scripts": scripts, "stops": stops}
 
 
 def main(words):

@@ -4,9 +4,7 @@
 A case is a line of a program that makes a call; a line that only sets up what the next calls are made over is none.
 
     tools/gate/counts.py              the totals, and a row for each program
-    tools/gate/counts.py --calls      and one for each call of a program
-    tools/gate/counts.py --stops      for docs/TESTED.md, of each command how often it is stopped in the stored lines of command_lines and how often a
-                                      call of a disk fails, in how many lines, and how many edits come between a stop and the recovery"""
+    tools/gate/counts.py --calls      and one for each call of a program"""
 import collections
 import pathlib
 import re
@@ -25,12 +23,13 @@ def calls_of(path):
 
 
 def stops():
-    """The table of stops, failing calls and late edits."""
+    """Of each command how often it is stopped in the stored lines of command_lines and how often a call of a disk fails, in how many lines, and how many
+    edits come between a stop and the recovery."""
     calls, answers = (text_of(f"crates/command_lines/{part}").split("\n") for part in ("stdin", "stdout"))
     lines, times, cut = collections.Counter(), collections.Counter(), None
     for at, (call, *words) in enumerate(line.split("\t") for line in calls):
         command = words[{"stops": 2, "faults": 1, "cut": 3}.get(call, 0) :]
-        command = " ".join(command[: 1 + (command[1:2] in (["-"], ["--resolve"]))])
+        command = " ".join(command[: 1 + (command[1:2] in (["-"], ["--resolve"], ["ask"], ["take"]))])
         if call in ("stops", "faults"):
             place = command, 2 * (call == "faults") + (words[0] == "repo")
             lines[place] += 1
@@ -38,11 +37,12 @@ def stops():
             times[place] += int(answers[at + 1].rsplit(" ", 1)[1])
         elif call in ("root", "repo") and cut:
             lines[cut, 4] += 1
-        cut = command if call == "cut" else cut if call in ("root", "repo") else None
-    print(f"| command | {' | '.join(COLUMNS)} |\n|---|---|---|---|---|---|")
+        cut = command if call == "cut" else None if call == "disks" else cut
+    rows = [f"| command | {' | '.join(COLUMNS)} |", "|---|---|---|---|---|---|"]
     for command in sorted({command for command, _ in lines}):
         cells = [f"{times[command, at]:,} in {lines[command, at]}" if at < 4 else str(lines[command, at]) for at in range(5)]
-        print(f"| `{command}` | {' | '.join(cell if lines[command, at] else '' for at, cell in enumerate(cells))} |")
+        rows.append(f"| `{command}` | {' | '.join(cell if lines[command, at] else '' for at, cell in enumerate(cells))} |")
+    return rows
 
 
 def main():
@@ -57,4 +57,5 @@ def main():
     print(f"{inside + outside} edits: {inside} in the gate, {outside} outside it")
 
 
-stops() if "--stops" in sys.argv else main()
+if __name__ == "__main__":
+    main()

@@ -1,5 +1,5 @@
-"""Mutants of what the program reads: manifests, change sets, batches, configurations, models, databases, records, logs and commits with some bytes
-changed, over which it has to answer as the models do. They are said as lines of command_lines; a program of it answers thousands at once, and what it
+"""Mutants of what the program reads: manifests, change sets, batches, requests, replies, configurations, models, databases, records, logs and commits
+with some bytes changed, over which it has to answer as the models do. They are said as lines of command_lines; a program of it answers thousands at once, and what it
 answers is compared. Behind an answer that differs the lines up to the next `disks` aren't compared. Usage, at the top, with a program as
 crates/command_lines makes it:
 
@@ -13,7 +13,7 @@ import subprocess
 import sys
 import time
 
-from tools.cases import samples, several
+from tools.cases import mirrors, samples, several
 from tools.cases.root_examples import OWNED, Examples, one_format
 from tools.cases.samples import LABEL, RELATIVE, SET, TABLE, file
 from tools.lines.script import Script
@@ -72,6 +72,8 @@ ROOT, OLD_ROOT, REPO = set_up()
 PLACES = dict(ROOT), dict(OLD_ROOT), dict(REPO)
 MANIFESTS = TABLE.named("COMPONENT SECOND PACKAGE SOURCE GROUP LEVELS") + [OWNED]
 FOO = b"foo:runtime=" + LABEL
+MORE = samples.component(b"more:lib", b"1-1-1", [(b"/more", samples.plain(b"abcd"))])
+TWO_REPLY = mirrors.reply(samples.set_bytes([samples.V1, MORE], samples.carried(b"abc", b"abcd")))
 LOGS = [samples.ONE_LOG, samples.REPLAYED_LOG, samples.log_of([(DATABASE, file(PLACES[0][DATABASE][2]))])]
 
 
@@ -103,7 +105,9 @@ def behind_flag(side, journal, call):
 KINDS = {
     "manifest": (MANIFESTS, (), (), read_by(b"install", b"install --replace", b"cook", b"cook --next")),
     "change set": ([SET, RELATIVE, samples.set_bytes([samples.V2], samples.carried(b"abcd"))], (), REPO, read_by(b"update -", b"commit", b"showcs")),
-    "batch": ([several.FIVE, several.batch(b"q", b"rq", (b"cook", MANIFESTS[2]), b"update bar=" + LABEL)], (), (), read_by(b"batch")),
+    "batch": ([several.TABLE.names["FIVE"], several.batch(b"q", b"rq", (b"cook", MANIFESTS[2]), b"update bar=" + LABEL)], (), (), read_by(b"batch")),
+    "requests": (list(mirrors.STREAMS.values()), (), REPO, read_by(b"serve")),
+    "replies": ([mirrors.FIRST_REPLY, mirrors.SECOND_REPLY, mirrors.EMPTY_REPLY, TWO_REPLY], (), samples.COOKED, read_by(b"mirror take")),
     "configuration": (
         [b"installLabelPath %s\nflavor ~ssl,!krb is: x86(sse)\n" % LABEL, b"# none\n\ninstallLabelPath a@b:c %s\r\n[section]\nflavor\n" % LABEL],
         [(b"/etc", DIR)], REPO, standing("root", CONFIG, b"changeset foo:runtime", b"update foo:runtime", b"update --resolve foo:runtime"),

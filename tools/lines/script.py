@@ -1,6 +1,7 @@
 """The lines of command_lines that call the program: what is set up, the calls, and what each has to answer by the model of the program.
 
 Of the lines only those of `cut` and `from` depend on how many calls of its disks a command makes."""
+import functools
 import re
 
 from tools.lines.words import puts_term, shown, standing, term, tree_term
@@ -58,8 +59,8 @@ def both(trees):
     return kept("root", trees["root"]) + kept("repo", trees["repo"])
 
 
-def recovered(side, tree, pick):
-    image = tree.crash(pick)
+def recovered(side, image):
+    """What a recovery makes of what a crash left."""
     try:
         found = "committed" if JOURNALS[side].recover(image) else "at rest"
     except (Refused, Damaged):
@@ -210,7 +211,7 @@ class Script:
 
     def cut(self, side, calls, pick, *words):
         self.trees[side].left = calls
-        answer = told(self.called(words, self.trees)) + recovered(side, self.trees[side], pick)
+        answer = told(self.called(words, self.trees)) + recovered(side, self.trees[side].crash(pick))
         self.trees = crashed(self.trees, side, pick)
         self.say("cut", side, calls, pick, *map(argument, words), answer=answer)
 
@@ -224,17 +225,11 @@ class Script:
     def copies(self, side, failing=0):
         return {name: tree.copy(failing if name == side else 0) for name, tree in self.trees.items()}
 
-    def stopped(self, words, side, pick, calls):
-        trees = self.copies(side)
-        trees[side].left = calls
-        call = self.called(words, trees)
-        text = told(call) + recovered(side, trees[side], pick)
-        return call.status, text + self.again(words, crashed(trees, side, pick))
-
-    def failed(self, words, side, number):
+    def failed(self, words, side, number, found):
         trees = self.copies(side, number)
-        call = self.called(words, trees)
-        text = told(call) + "\tleft" + standing(trees[side].nodes) + recovered(side, trees[side], 0)
+        call, image = self.called(words, trees), trees[side].crash(0)
+        text = told(call) + "\tleft" + standing(trees[side].nodes) + recovered(side, image)
+        found.append(image.nodes)
         return call.status, text + self.again(words, trees)
 
     def sweep(self, fields, words, side, outcome):
@@ -250,7 +245,35 @@ class Script:
         self.say("from", answer=" ".join(["from", *map(str, numbers)]))
 
     def stops(self, side, pick, *words):
-        self.sweep(["stops", side, pick], words, side, lambda calls: self.stopped(words, side, pick, calls))
+        self.all_stops(side, [pick], *words)
+
+    def all_stops(self, side, picks, *words):
+        """What these numbers pick behind each number of calls. Gives the nodes of the disk behind each recovery. What several picks share is made once."""
+        found = []
+
+        @functools.cache
+        def cut_off(calls):
+            trees = self.copies(side)
+            trees[side].left = calls
+            return self.called(words, trees), trees
+
+        @functools.cache
+        def again(*nodes):
+            return self.again(words, {name: Tree(dict(some)) for name, some in zip(self.trees, nodes)})
+
+        def stopped(calls):
+            call, trees = cut_off(calls)
+            image = trees[side].crash(pick)
+            text = told(call) + recovered(side, image)
+            found.append(image.nodes)
+            return call.status, text + again(*(frozenset(tree.nodes.items()) for tree in crashed(trees, side, pick).values()))
+
+        for pick in picks:
+            self.sweep(["stops", side, pick], words, side, stopped)
+        return found
 
     def faults(self, side, *words):
-        self.sweep(["faults", side], words, side, lambda calls: self.failed(words, side, calls + 1))
+        """Each call failing once. Gives the nodes of the disk behind each recovery."""
+        found = []
+        self.sweep(["faults", side], words, side, lambda calls: self.failed(words, side, calls + 1, found))
+        return found
