@@ -22,8 +22,8 @@ from tools.model.trees import DIR
 def said():
     """The script of all cases; each example has to be there, and what it answers has to be what is written with it."""
     script = Script()
-    of_tables = (commands.TABLE, commands.CASES), (None, EXAMPLES), (root_commands.TABLE, root_commands.CASES)
-    for table, cases in (*of_tables, *((None, topic.CASES) for topic in (syncs, several, mirrors, histories, stops))):
+    topics = [(topic.TABLE, topic.CASES) for topic in (commands, root_commands, syncs, several, mirrors, histories, stops)]
+    for table, cases in (topics[0], (None, EXAMPLES), *topics[1:]):
         for some in cases:
             # The name of a topic means its steps.
             script.name = some if isinstance(some, str) else some.__name__
