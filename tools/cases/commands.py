@@ -5,11 +5,9 @@ from tools.cases import samples
 from tools.cases.commits import failing_commits
 from tools.cases.rows import Rows
 from tools.cases.samples import (
-    ABC, ABCD, BOTH, COOKED, ETC, LONGER_SPEC, LONG_SPEC, SET, SETS, V1, V2, carried, component, content_at, edited, file, manifest, plain,
+    BOTH, LONGER_SPEC, LONG_SPEC, SET, SETS, content_at, edited, file, manifest,
 )  # fmt: skip
 from tools.model import repository as repo_side
-from tools.model.relatives import relative_of
-from tools.model.streams import asked_by, regular, set_bytes
 
 # ---- what the rows name
 
@@ -27,15 +25,9 @@ LONG_9, LONG_1 = (manifest(b"foo:runtime", LONG_UPSTREAM + revision, label=LONG_
 LONG_FOO = manifest(b"foo:runtime", b"1.0-1-1", label=b"/" + LONG_LABEL + b"/1.0-1-1/" + LONG_LABEL)
 OWNED_LINES = [b"dir 0755 root:root /etc", b"file 0644 3 daemon:adm /etc/foo", b"abc"]
 OWNED, OWNED_FLAVOR = (manifest(b"own:runtime", b"1.0-1-1", lines + OWNED_LINES, b"manifest 2") for lines in ([], [b"flavor krb, ~ssl"]))
-AGAIN_SET = set_bytes([component(b"again:lib", b"1-1-1", [(b"/a", plain(b"abc"))])], [])
 TABLE = Rows("commands", globals(), samples.TABLE.names)
-# Over a repository that has the first version: a content of another size is missing.
-SHORTER = component(b"foo:runtime", b"1.0-1-2", [ETC, (b"/etc/foo", regular(0o644, 0, 4, ABC))])
-SAME, FOO_AT_3, VAR = TABLE.named("SAME FOO_AT_3 VAR")
 COMMIT = dict(BOTH)[repo_side.commit_path(1)][2]
 CUT_COMMIT, (COMMIT_OF_GROUP, COMMIT_OF_VAR) = COMMIT[:-1], (repo_side.commit_bytes([one]) for one in TABLE.named("REFERRING VAR_FILE"))
-FROM_FIRST, FROM_SECOND, STALE = relative_of(V1, V2), relative_of(V2, FOO_AT_3), relative_of(V1._replace(files=[]), V2)
-ONTO_VAR, TO_SAME = relative_of(V1, VAR), relative_of(V1, SAME)
 
 
 def set_cases(script):
@@ -50,18 +42,6 @@ def commit_cases(script):
     for data, says in SETS.items():
         script.disks().fed(data, b"commit")
         assert says[-1:] in (b"", b"\n") or script.made.err == b"conary: " + says + b"\n"
-    for parts in map(TABLE.named, TABLE.topics["commits"]):
-        carries = [b"abcd"] if any(name == ABCD for part in parts for name, _ in asked_by(part)) else []
-        script.disks((), COOKED).each(b"commit", set_bytes(parts, carried(*carries))).run(b"rq")
-    # A content that is carried again is compared with the committed one.
-    script.disks((), COOKED).fed(set_bytes([SAME], carried(b"abc")), b"commit")
-    # Seven troves at once: refused for the last one's content, taken, and refused since they exist.
-    contents = [b"part %d" % place for place in range(7)]
-    parts = [component(b"part%d:runtime" % place, b"1.0-1-1", [(b"/part%d" % place, plain(data))]) for place, data in enumerate(contents)]
-    script.disks()
-    for carries in (contents[:-1], contents, contents):
-        script.fed(set_bytes(parts, carried(*carries)), b"commit")
-        script.run(b"rq")
 
 
 def set_making_cases(script):
@@ -74,7 +54,8 @@ def set_making_cases(script):
 
 CASES = (
     "calls of words", "installed manifests", set_cases, "failing streams", "over a write set", "roots with a journal", "shown", "failing calls",
-    "cut off", "second installations", "cooked", "cooks that are cut off", "refused cooks", "cooks over strays", commit_cases, "listed",
+    "cut off", "second installations", "cooked", "cooks that are cut off", "refused cooks", "cooks over strays", commit_cases, "commits over the first version",
+    "commits of seven troves", "listed",
     "meant by configurations", "other configurations", set_making_cases, "sets over damaged contents", "moves", "moved with a configuration",
     "next revisions", "commands over damaged repositories", "both disks stop", "commands over damaged contents", "faults of both disks",
     "crashes of both disks", "second commands", failing_commits,

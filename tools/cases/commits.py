@@ -3,7 +3,6 @@ fail. The troves and most sets are rows of commits.txt: there a set is its parts
 from tools.cases.repositories import commit_answer, component, tree_of
 from tools.cases.samples import RELATIVE, SET, V1 as F1, V2 as F2, carried, content_at, file
 from tools.cases.rows import ONE, OTHER, Rows
-from tools.model.relatives import relative_of
 from tools.model.repository import BASE, CONTENTS, commit_bytes, commit_path
 from tools.model.streams import id_text, set_bytes
 from tools.model.trees import DIR
@@ -15,11 +14,8 @@ LINK, JUNK, NARROW = ("link", b"elsewhere"), file(b"junk"), ("dir", 0o700)
 TEXTS = {
     "OLD": OLD, "NEW": NEW, "ELSE": ELSE, "ONE": ONE, "OTHER": OTHER, "EMPTY": b"", "A": b"a", "B": b"b", "ABC": b"abc", "ABCD": b"abcd",
 }  # fmt: skip
-TABLE = Rows("commits", data=TEXTS.get)
-TROVES = {"F1": F1, "F2": F2, **{name: TABLE.trove(text) for name, text in (row.split(" = ") for row in TABLE.rows("troves"))}}
-for row in TABLE.rows("relative troves"):
-    made, old, new = row.replace(" =", "").split()
-    TROVES[made] = relative_of(TROVES[old], TROVES[new])
+TABLE = Rows("commits", {"F1": F1, "F2": F2}, data=TEXTS.get)
+TROVES = TABLE.names
 
 
 def change_set(row):

@@ -4,7 +4,7 @@ of tools/model/repository.py."""
 from hashlib import sha1
 
 from tools.cases import samples
-from tools.cases.rows import Rows
+from tools.cases.rows import Rows, flipped
 from tools.cases.samples import LABEL, V1 as F1, V2 as F2, content_at, file, plain
 from tools.lines.words import answered, items, line, standing, term, tree_term
 from tools.model import repository
@@ -50,10 +50,6 @@ def trees_of(topic):
 TREE = next(trees_of("trees"))
 
 
-def changed(text, at):
-    return text[:at] + bytes([text[at] ^ 1]) + text[at + 1 :]
-
-
 def trees():
     """Each tree with which every call is made."""
     yield from ({b"/": DIR}, {b"/": DIR, BASE: file(OLD, 0o644)}, {b"/": DIR, BASE: DIR})
@@ -63,7 +59,7 @@ def trees():
         path = commit_path(number)
         text = TREE[path][2]
         cuts, places = (1, 7, 8, 12, 13, len(text) // 2, len(text) - 5, len(text) - 1), (0, 8, 9, 14, len(text) - 5, len(text) - 1)
-        texts = [b"", MAGIC, MAGIC + item(0x4F, b""), *(text[:cut] for cut in cuts), *(changed(text, at) for at in places), text + b"\0"]
+        texts = [b"", MAGIC, MAGIC + item(0x4F, b""), *(text[:cut] for cut in cuts), *(flipped(text, at) for at in places), text + b"\0"]
         yield from (with_node(TREE, path, node) for node in (None, DIR, LINK, *map(file, texts), file(text + item(0x4F, b""))))
     # An id twice, in one commit and in two; paths that no trove may record; a reference to no trove, before which a file counts that isn't
     # in its grammar.

@@ -6,15 +6,15 @@ import hashlib
 import itertools
 
 from tools.cases import root_examples
-from tools.cases.root_examples import FOO, M, M2, WRONG, Examples
+from tools.cases.root_examples import M, M2, WRONG, Examples
 from tools.cases.rows import Rows
 from tools.cases.samples import (
-    ABC, ETC, GROUP, LABEL, LONGER_SPEC, LONG_SPEC, NO_VAR, SET, V1, V2, carried, component, content_at, cooked, file, log_of, manifest, plain,
+    GROUP, LABEL, LONGER_SPEC, LONG_SPEC, NO_VAR, SET, V1, carried, component, content_at, cooked, file, log_of, manifest, plain,
 )  # fmt: skip
 from tools.model import program
 from tools.model.records import DATABASE, database_bytes
 from tools.model.relatives import relative_of
-from tools.model.streams import asked_by, regular, set_bytes
+from tools.model.streams import asked_by, set_bytes
 from tools.model.trees import DIR
 
 NEW_1, NEW_2 = b"1.0-1-1", b"1.0-2-1"
@@ -24,10 +24,6 @@ LONG_NAME, LONGEST_NAME, LONG_SPEC_WORD, LONGEST_WORD = b"n" * 256, b"n" * 255, 
 GOOD, AT_ABC = database_bytes(2, [V1], 1, 1), content_at(b"abc")
 CUT_GOOD, GOOD_3 = GOOD[:-1], GOOD.replace(b"CNYDB02", b"CNYDB03")
 GOOD_4097, GOOD_0 = (database_bytes(2, [V1], *numbers) for numbers in ((1, 4097), (0, 1)))
-# A content that comes with its trove, or from elsewhere; one of another size; and what leads to the second version, without its content.
-WANTED_FOO, OTHER_FOO = (component(b"foo:runtime", b"1.0-3-1", [ETC, (FOO, regular(0o600, 0, size, ABC))]) for size in (3, 4))
-WANTED, BARE_WANTED, OTHER_SIZE = set_bytes([WANTED_FOO], carried(b"abc")), set_bytes([WANTED_FOO], []), set_bytes([OTHER_FOO], [])
-BARE = set_bytes([relative_of(V1, V2)], [])
 DATABASE_LOG = log_of([(DATABASE, file(GOOD, 0o644))])
 TABLE = Rows("root_commands", globals(), root_examples.TABLE.names)
 BAR, FREE_BAR = TABLE.named("BAR FREE_BAR")
@@ -116,10 +112,6 @@ def change_set_refusals(script):
         expect_first(script, faults)
         script.fed(set_bytes(parts, contents), b"update", b"--replace", b"-")
     refused_root(script).each(b"update -", b"", SET[:50], SET + b"x", set_bytes([], []))
-    # A base that is installed, but isn't what the relative trove starts from; and the same trove twice.
-    stale = relative_of(V1._replace(files=[]), V2)
-    sets = (([stale], [b"abcd"]), ([V2, V2], [b"abcd"]), ([relative_of(V2, V1)], [b"abc"]))
-    script.disks().installs(M).each(b"update -", *(set_bytes(parts, carried(*contents)) for parts, contents in sets))
 
 
 def collision_cases(script):
@@ -182,7 +174,7 @@ def reading_cases(script):
 
 CASES = (
     word_cases, "the longest words", most_word_cases, "kinds that change at a path", "packages and groups", install_refusals, change_set_refusals,
-    "sources of contents", collision_cases, spec_refusals, erase_refusals, "erasures of packages and groups", rollback_refusals,
+    "sets over another base", "sources of contents", collision_cases, spec_refusals, erase_refusals, "erasures of packages and groups", rollback_refusals,
     "parents that are gone", reading_cases, "local changes", "damaged databases", "other databases", "crashes of calls", "late changes",
     "failing jobs", "failing inputs",
 )  # fmt: skip

@@ -9,7 +9,11 @@ from urllib.parse import unquote_to_bytes
 from tools.lines.words import rows_of, spelled
 from tools.model import repository
 from tools.model.program import manifest_of
-from tools.model.streams import ChangeSet, Id, Owner, Trove, directory, file_of, flags_of_letters, link, trove_of
+from tools.model.relatives import relative_of
+from tools.model.streams import (
+    ChangeSet, Id, Owner, Trove, directory, file_of, flags_of_letters, item, link, set_bytes, sha, str_field, trove_bytes,
+    trove_of,
+)  # fmt: skip
 from tools.model.trees import Tree
 
 LABEL, STABLE = b"conary.example.com@ex:devel", b"conary.example.com@ex:stable"
@@ -35,6 +39,15 @@ CONTENTS = {"-": b"", "ONE": ONE, "OTHER": OTHER, "NO_DIRECTORY": b"no directory
 def content(text):
     """One of these, or bytes of pieces; where one of them isn't plain, `%` and two digits stand for a byte."""
     return CONTENTS[text] if text in CONTENTS else unquote_to_bytes(text) if "%" in text else spelled(text)
+
+
+def unescaped(text):
+    return unquote_to_bytes(text).decode("unicode_escape").encode("latin-1")
+
+
+def flipped(data, place):
+    """The bytes, one of them with another lowest bit."""
+    return data[:place] + bytes([data[place] ^ 1]) + data[place + 1 :]
 
 
 def from_hex(text):
@@ -105,12 +118,15 @@ def batch(*lines):
 
 class Rows:
     """A table, and what its rows name: the texts, manifests, troves and nodes of these topics, and values of modules, also those that a
-    module has for its rows alone. In bytes `{NAME}` is such a value, `{NAME:9}` the first 9 bytes of it, `{NONE}` no bytes, `%` and two digits a
-    byte, and an escape what it is in Python. `data` reads the bytes of files."""
+    module has for its rows alone. In bytes `%` and two digits are a byte, and an escape is what it is in Python; `{NAME}` is such a value, `{NAME:9}`
+    the first 9 bytes of it, `{flip 9 NAME}` all of it with another 9th byte, `{NONE}` none; `{byte 9}` a byte by its number, `{sha abc}` the SHA-1 of a
+    text, `{full V1}` and `{compact V1}` the stream of a trove, `{set V1 V2: abc abcd}` the change set of these parts and contents; `{04:` and `}` stand around the value of an item of this tag, `{str:` and `}` around a text behind its length. `data` reads
+    the bytes of files."""
 
     def __init__(self, name, *modules, data=None):
         self.topics, self.names, self.data = table(name), ChainMap({"NONE": b"", "nothing": []}, *modules), data or self.word
-        for topic, made in (("texts", self.bytes), ("manifests", self.manifest), ("troves", self.trove), ("nodes", self.nodes), ("named batches", self.batch)):
+        kinds = ("texts", self.bytes), ("manifests", self.manifest), ("troves", self.trove), ("relative troves", self.relative), ("nodes", self.nodes)
+        for topic, made in (*kinds, ("named batches", self.batch)):
             for key, *fields in self.fields(topic):
                 self.names[key] = made(*fields)
 
@@ -128,15 +144,45 @@ class Rows:
 
     def fields(self, topic):
         """The fields of each row, with `|` between two."""
-        return [re.split(r" ?\| ?", row) for row in self.topics.get(topic, [])]
+        return [re.split(r" ?\| ?", row) for row in rows_of(self.topics, topic)]
 
     def named(self, text):
         """The values of these names."""
         return [self.names[name] for name in text.split()]
 
     def bytes(self, text):
-        escaped = unquote_to_bytes(text).decode("unicode_escape").encode("latin-1")
-        return re.sub(rb"\{(\w+)(?::(\d+))?\}", lambda found: self.names[found[1].decode()][: found[2] and int(found[2])], escaped)
+        return self.spelled(iter(re.findall(r"\{(?:[0-9a-f]{2}|str):|\{[^{}]*\}|[^{}]+|[{}]", text)))
+
+    def spelled(self, signs):
+        """The bytes that these signs spell, up to the sign that ends an item or a text, if they are in one."""
+        made = b""
+        for sign in signs:
+            if sign == "}":
+                break
+            if sign.startswith("{"):
+                tag, is_of = sign[1:-1], self.spelled(signs) if sign.endswith(":") else None
+                made += self.value(tag) if is_of is None else str_field(is_of) if tag == "str" else item(int(tag, 16), is_of)
+            else:
+                made += unescaped(sign)
+        return made
+
+    def value(self, text):
+        """What stands in braces."""
+        word, _, rest = text.partition(" ")
+        if word == "byte":
+            return bytes([int(rest)])
+        if word == "sha":
+            return sha(unescaped(rest))
+        if word in ("full", "compact"):
+            return trove_bytes(self.names[rest], word == "full")
+        if word == "flip":
+            place, _, name = rest.partition(" ")
+            return flipped(self.names[name], int(place))
+        if word == "set":
+            parts, _, contents = rest.partition(":")
+            return set_bytes(self.named(parts), sorted((sha(data), data) for data in map(unescaped, contents.split())))
+        name, _, size = text.partition(":")
+        return self.names[name][: int(size) if size else None]
 
     def word(self, text):
         """Bytes, `-` for none."""
@@ -224,6 +270,9 @@ class Rows:
             else:
                 files.append(self.file(part))
         return trove_of(name, version, files, *lists.values(), flavor)
+
+    def relative(self, old, new):
+        return relative_of(self.names[old], self.names[new])
 
     def troves(self, text):
         """Troves with ` + ` between two."""

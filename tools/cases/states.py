@@ -4,16 +4,15 @@ The answers come from tools/model/records.py and tools/model/stacks.py, readings
 import itertools
 
 from tools.cases.rows import LABEL, ONE, OTHER as TWO, Rows
-from tools.lines.words import answered, bytes_word, line, node_word, placed, tree_word
+from tools.lines.words import answered, bytes_word, line, node_word, placed, rows_of, tree_word
 from tools.model import stacks
 from tools.model.records import (
-    BASE, CAME, DATABASE, DATABASE_END, DATABASE_MAGIC, EMPTY, END, ENTRY, LISTED, MAGIC, NOTHING, NUMBER, NUMBERS, TROVE, TURNED, WAS, Db,
-    Record, content_path, database_bytes, delta_bytes, entry_bytes, four, mark_of, read_database, read_record, record_bytes, saved_path,
-    sha,
+    BASE, CAME, DATABASE, EMPTY, LISTED, MAGIC, NOTHING, NUMBER, TURNED, WAS, Db, Record, content_path, database_bytes, delta_bytes, entry_bytes, four,
+    mark_of, read_database, read_record, record_bytes, saved_path, sha,
 )  # fmt: skip
 from tools.model.relatives import relative_of
 from tools.model.stacks import file
-from tools.model.streams import Owner, directory, file_of, id_text, item, link, relative_bytes, trove_bytes, trove_of
+from tools.model.streams import Owner, directory, file_of, id_bytes, id_text, item, relative_bytes, trove_bytes, trove_of
 from tools.model.trees import DIR, Refused
 
 # The directories in which a root has its files.
@@ -72,34 +71,6 @@ def decode_line(text):
     return line("decode", bytes_word(text)), decode(text)
 
 
-def bad():
-    """Bytes that are no database, and some beside them that are one."""
-    one, old = database_bytes(2, [FOO], 1, 1), database_bytes(1, [FOO], 1, 1)
-    magic, end, numbers = DATABASE_MAGIC[2], item(DATABASE_END, b""), item(NUMBERS, four(0) + four(0))
-    yield from [b"", magic, b"CNYDB03\n" + one[8:], b"CNYDB01\n" + one[8:], b"CNYDB02\n" + old[8:]]
-    yield from (one[:cut] for cut in range(1, len(one)))
-    yield from [one + b"\0", one + end, one[:-5] + item(DATABASE_END, b"\0"), one[:-5] + item(0x5E, b"")]
-    # Numbers.
-    yield from (database_bytes(*row) for row in databases("databases with other numbers"))
-    yield from (magic + part + end for part in (item(NUMBERS, four(1)), item(NUMBERS, four(1) + four(1) + b"\0"), b"", numbers + numbers))
-    # Order and names, then owners.
-    later = trove(b"foo:runtime", version=V1.replace(b"1.0", b"1.1"))
-    yield from (database_bytes(2, troves, 1, 1) for troves in ([FOO, BAR], [FOO, FOO], [FOO, later]))
-    yield from (magic + item(NUMBERS, four(1) + four(1)) + item(TROVE, trove_bytes(FOO, True)) + end, database_bytes(1, [OWNED], 1, 1))
-    yield magic + item(TROVE, trove_bytes(FOO, False)) + one[-18:]
-    yield DATABASE_MAGIC[1] + item(TROVE, trove_bytes(FOO, True)) + one[-18:]
-    # Paths that no trove may record, and those that two may not.
-    folder, target = directory(0o755), link(b"x")
-    forbidden = [(path, folder) for path in (BASE, DATABASE)] + [(path, target) for path in (b"/", b"/var", b"/var/lib")]
-    yield from (database_bytes(2, [trove(b"a:b", (path, record))], 1, 1) for path, record in forbidden)
-    for record, other in ((ABC, ABC), (ABC, folder), (folder, ABC), (target, target), (target, folder)):
-        yield database_bytes(2, [trove(b"a:b", (b"/p", record)), trove(b"a:c", (b"/p", other))], 1, 1)
-        yield database_bytes(2, [trove(b"a:b", (b"/p", record)), trove(b"a:bb"), trove(b"a:c", (b"/o", ABC), (b"/p", other))], 1, 1)
-    yield database_bytes(2, [trove(name, (b"/p", record)) for name, record in ((b"a:b", folder), (b"a:c", folder), (b"a:d", ABC))], 1, 1)
-    # Each byte of the head changed.
-    yield from (one[:at] + bytes([one[at] ^ 1]) + one[at + 1 :] for at in range(0, 40))
-
-
 def database_lines():
     yield decode_line(BY_HAND_2)
     yield from ((line("encode", bytes_word(text)), BY_HAND_2.hex()) for text in (database_bytes(1, [FOO], 1, 1), BY_HAND_2))
@@ -109,7 +80,7 @@ def database_lines():
     yield decode_line(database_bytes(2, [trove(b"a:b", (b"/var/lib", directory(0o700)))], 1, 1))
     yield from map(load_line, (None, ("dir", 0o600), ("link", b"elsewhere")))
     yield line("load", 1, tree_word(FIXED)), "failed"
-    for text in bad():
+    for text in map(TABLE.bytes, TABLE.steps(rows_of(TABLE.topics, "databases that are none"))):
         yield decode_line(text)
         if len(text) % 16 == 0 or len(text) > 180:
             yield load_line(file(text, 0o600))
@@ -131,33 +102,12 @@ RECORDS += [(2, Record(4_294_967_295, [], [])), (2, Record(0, [(CAME, BAR.identi
 RECORDS += [(2, Record(7, [], [(b"/%02d" % at, MARKS[at // 8], MARKS[at % 8]) for at in range(64)]))]
 
 
-def bad_records():
-    """Formats, and bytes that are no record in them."""
-    one, two = RECORD_BY_HAND, record_bytes(RECORDS[1][1], 2)
-    for text in (one, two):
-        yield from ((2, text[:cut]) for cut in range(len(text)))
-        yield from [(1, text), (2, text + b"\0"), (2, text + item(END, b""))]
-    magic, head, end, part = MAGIC[2], MAGIC[2] + item(NUMBER, four(1)), item(END, b""), item(0x61, b"")
-    came, was = delta_bytes((CAME, BAR.identity), 2), delta_bytes((WAS, FOO), 2)
-    etc, foo = (entry_bytes((path, NOTHING, LISTED)) for path in (b"/etc", b"/etc/foo"))
-    # Heads and ends, and the order of deltas and entries.
-    some = [b"CNYRB03\n" + one[8:], b"CNYRA01\n" + one[8:], MAGIC[1] + one[8:], head, magic + end]
-    some += [magic + item(tag, value) + end for tag, value in ((NUMBER, four(1) + b"\0"), (NUMBER, four(1)[1:]), (0x61, four(1)))]
-    some += [head + item(NUMBER, four(1)) + end, head + part + end, head + item(END, b"\0")]
-    some += [head + middle + end for middle in (was + came, came + came, etc + was, foo + etc, foo + foo, came + etc + was)]
-    # Values.
-    relative, full = relative_bytes(UPDATE[1], True), trove_bytes(FOO, True)
-    values = [(CAME, value) for value in (b"", BAR.identity.name, full)]
-    values += [(WAS, value) for value in (b"", trove_bytes(FOO, False), full + b"\0", full[:-1])]
-    values += [(TURNED, relative_bytes(UPDATE[1], False)), (TURNED, relative[:-1]), (WAS, relative)]
-    yield from ((2, text) for text in [*some, *(head + item(*value) + end for value in values)])
-    owned = relative_of(FOO_2._replace(identity=OWNED.identity._replace(version=V2)), OWNED)
-    values = [(WAS, full), (WAS, trove_bytes(OWNED, False)), (TURNED, relative), (TURNED, relative_bytes(owned, False))]
-    yield from ((1, MAGIC[1] + head[8:] + item(*value) + end) for value in values)
-    # Fingerprints and paths.
-    values = [b"\0\4/etc" + mark for mark in TABLE.all_bytes("fingerprints that are none")]
-    values += (path + b"n=" for path in TABLE.all_bytes("paths that are none"))
-    yield from ((2, head + item(ENTRY, value) + end) for value in values)
+# What stands in rows of bytes that are no record.
+UPDATE_RECORD, FULL_FOO, ID_FOO = record_bytes(RECORDS[1][1], 2), trove_bytes(FOO, True), id_bytes(FOO.identity)
+HEAD, CAME_BAR, WAS_FOO = MAGIC[2] + item(NUMBER, four(1)), delta_bytes((CAME, BAR.identity), 2), delta_bytes((WAS, FOO), 2)
+AT_ETC, AT_FOO = (entry_bytes((path, NOTHING, LISTED)) for path in (b"/etc", b"/etc/foo"))
+FULL_UPDATE, COMPACT_UPDATE = relative_bytes(UPDATE[1], True), relative_bytes(UPDATE[1], False)
+OWNED_UPDATE = relative_bytes(relative_of(FOO_2._replace(identity=OWNED.identity._replace(version=V2)), OWNED), False)
 
 
 def delta_text(tag, value):
@@ -179,7 +129,8 @@ def record_lines():
     texts = [(kind, record_bytes(one, kind), record_bytes(one, 2)) for kind, one in RECORDS]
     for kind, text, again in [*texts, (2, RECORD_BY_HAND, RECORD_BY_HAND)]:
         yield from (record_line(kind, text), (line("rewritten", kind, bytes_word(text)), again.hex()))
-    yield from (record_line(*one) for one in bad_records())
+    for kind, _, text in (row.partition(" ") for row in TABLE.steps(rows_of(TABLE.topics, "records that are none"))):
+        yield record_line(int(kind), TABLE.bytes(text))
 
 
 # ---- saved contents

@@ -51,7 +51,7 @@ def trove_of_row(head, *rest):
     return trove(name, files, *revision, requires=told["requires"], gives=told["provides"])
 
 
-for made, text in (row.split(" = ") for row in TABLE.rows("troves")):
+for made, text in (row.split(" = ") for row in TABLE.rows("named troves")):
     TROVES[made] = trove_of_row(*text.split("; "))
 CALLS = dict(row.split(" = ") for row in TABLE.topics["calls"])
 
