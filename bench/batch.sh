@@ -11,14 +11,11 @@ cd "$top"
 PYTHONPATH=$top python3 - "$program" "$work" "${1:-200}" <<'END'
 import filecmp, subprocess, sys, time
 from pathlib import Path
-from tools.model import demo
+from tools.cases.rows import batch
+from tools.model.batches import lines_of
 
 program, work, packages = sys.argv[1], Path(sys.argv[2]), int(sys.argv[3])
-lines = [line for line in demo.lines_of(packages) if line[0][0] in (b"cook", b"update")]
-
-
-def spelled(words, data):
-    return b"%s <%d\n%s\n" % (b" ".join(words), len(data), data)
+lines = [line for line in lines_of(packages) if line[0][0] in (b"cook", b"update")]
 
 
 def run(name, calls):
@@ -39,10 +36,10 @@ def same(one, other):
     return all(same(Path(one, name), Path(other, name)) for name in both.common_dirs)
 
 
-batch, took = run("batch", [([b"batch"], b"".join(spelled(*line) for line in lines))])
+together, took = run("batch", [([b"batch"], batch(*((b" ".join(words), data) for words, data in lines)))])
 alone, took_alone = run("alone", lines)
 what = f"{2 * packages + 2} cooks and 2 updates over directories of the host"
 print(f"{what}, in one batch | {packages} packages | {took} ms")
 print(f"{what}, one process each | {packages} packages | {took_alone} ms | at least 3 times as long")
-sys.exit(batch != alone or not same(work / "batch", work / "alone") or took_alone < 3 * took)
+sys.exit(together != alone or not same(work / "batch", work / "alone") or took_alone < 3 * took)
 END

@@ -6,7 +6,6 @@ cases worked by hand are held against the model before their lines are said.
 
 A put is a pair: a path, and what is to stand there."""
 import itertools
-from random import Random
 
 from tools.cases.rows import Rows, from_hex
 from tools.model.streams import is_path, item
@@ -103,8 +102,7 @@ BETWEEN += [([(b"/a-b", None)], b"/a/b/c/d"), ([(b"/a/b", None)], b"/a/b/c"), ([
 
 def orders():
     """Puts of the five kinds in each order, written; and read, the file staged. Each kind below each other one, directly and further down,
-    with a path that stands between them in path order and without. Puts of chance at paths above and beside each other; about a half of
-    them a log can hold. Paths that rise and that don't, by the order of bytes."""
+    with a path that stands between them in path order and without. Puts by chance. Paths that rise and that don't, by the order of bytes."""
     for wants in itertools.permutations(WANTS):
         puts = list(zip([b"/a", b"/b", b"/c", b"/d", b"/e"], wants))
         encode, decode = written(puts)
@@ -115,11 +113,7 @@ def orders():
     some += [[(b"/a", ("link", b"b")), (last + b"c", ("dir", 0o700))] for last in (b"/a!", b"/a-", b"/a/", b"/a0", b"/ab")]
     for puts in some:
         yield from [("rules", BASE, puts), ("decode", BASE, JOURNAL.log_of(puts))]
-    chance, wants = Random(7), [None, ("dir", 0o755), ("dir", 0o700), *WANTS]
-    below = b"", b"/b", b"/b-", b"/b/c", b"/b/c/d", b"/log", b"/x"
-    paths = sorted(top + rest for top in (b"/a", b"/a-b", b"/ab", b"/base") for rest in below)
-    for _ in range(200):
-        puts = [(path, chance.choice(wants)) for path in sorted(chance.sample(paths, chance.randint(2, 4)))]
+    for puts in map(TABLE.nodes, TABLE.rows("puts by chance")):
         yield from [("rules", BASE, puts), *written(puts)]
     paths = [b"/", b"/a", b"/a b", b"/a-b", b"/a/b", b"/a0", b"/aa", b"/b", b"/\xc3\xa9", b"/\xf0\x9f\x98\x80"]
     for two in itertools.product(paths, paths):

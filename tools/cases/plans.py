@@ -10,8 +10,8 @@ from tools.model.plans import FIXED, all_paths, owned, plan_changes, record, wri
 from tools.model.records import mark_of, mark_of_record
 from tools.model.reports import finding_line
 from tools.model.root import found_at
-from tools.model.streams import different_bytes, file_of, flag_letters, flags_of_letters, sha, trove_bytes, trove_of
-from tools.model.trees import parent_of
+from tools.model.streams import different_bytes, flag_letters, sha, trove_bytes, trove_of
+from tools.model.trees import DIR, parent_of
 
 PIECE = 65_536
 TABLE = Rows("plans", data=content)
@@ -28,15 +28,6 @@ def node(text="x", mode=0o644):
     return "file", mode, data(text)
 
 
-def rec(text="x", flags="", mode=0o644):
-    return file_of(data(text), mode, flags_of_letters(flags))
-
-
-def each(text, made=TABLE.node):
-    """What is made of each of these words."""
-    return list(map(made, text.split("; ")))
-
-
 def tree_of(text):
     return dict(TABLE.nodes(text))
 
@@ -45,18 +36,6 @@ def troves_of(text):
     """The files of troves by their names, with ` & ` between two: those of `a:lib` where no name stands before them."""
     troves = (one.rpartition(": ") for one in text.split(" & ") if one != "nothing")
     return {(name or "a:lib").encode(): dict(TABLE.nodes(files, TABLE.record)) for name, _, files in troves}
-
-
-D, RD = TABLE.node("dir"), TABLE.record("dir")
-
-
-def at(*nodes):
-    """A tree or the files of a trove: paths, each with what stands there behind it."""
-    return {path.encode(): one for path, one in zip(nodes[::2], nodes[1::2]) if one is not None}
-
-
-def lib(*nodes):
-    return {b"a:lib": at(*nodes)}
 
 
 def mark_text(node):
@@ -83,7 +62,7 @@ def troves_field(troves):
 
 
 def rooted(tree):
-    return {b"/": D, **tree}
+    return {b"/": DIR, **tree}
 
 
 def given_in(row, lists):
@@ -142,31 +121,9 @@ EVERY = [[], ["replace"], ["keep"], ["keep", "replace"]]
 
 def plan_lines(topic, choices):
     """The rows of a topic, each with each choice of options."""
-    for row, options in itertools.product(TABLE.rows(topic), choices):
+    for row, options in itertools.product(TABLE.steps(TABLE.rows(topic)), choices):
         *case, more = given_in(row, 2)
         yield plan_line(*case, *more, *options)
-
-
-def of_one(record):
-    return lib("/p", record) if record else {}
-
-
-def table_lines():
-    """Each record before and after against each thing that may stand, with each choice of options."""
-    olds = each("nothing; dir; file aa; file aa i; file aa t; link a", TABLE.record)
-    news = each("nothing; dir; file aa; file bb; file bb c; file bb i; file bb t; file cc ci; link a; link b", TABLE.record)
-    trees = "nothing | dir /p | dir 0700 /p; file x /p/x | file aa /p | file 0600 aa /p | file bb /p | link a /p | link b /p | dir 0700 /p"
-    for old, new, tree, options in itertools.product(olds, news, map(tree_of, trees.split(" | ")), EVERY):
-        if old is not None or new is not None:
-            yield plan_line(tree, of_one(old), of_one(new), *options)
-
-
-def flag_lines():
-    """Records with several flags at once, before and after."""
-    pairs = [(rec("aa", flags), new) for flags in ("ci", "ct", "it", "cit") for new in (None, rec("bb"))]
-    pairs += [(old, rec("bb", flags)) for flags in ("ci", "ct", "it", "cit") for old in (None, rec("aa"), RD)]
-    for (old, new), one, options in itertools.product(pairs, each("nothing; dir; file aa; file ee; link a"), EVERY):
-        yield plan_line(at("/p", one), of_one(old), of_one(new), *options)
 
 
 # ---- fingerprints and differences
@@ -285,7 +242,7 @@ def targets_lines():
 
 
 def lines():
-    yield from itertools.chain(plan_lines("named", [[]]), table_lines(), flag_lines(), plan_lines("shapes", EVERY))
+    yield from itertools.chain(plan_lines("named", [[]]), plan_lines("every record", EVERY), plan_lines("several flags", EVERY), plan_lines("shapes", EVERY))
     yield from plan_lines("what both lists record so isn't looked at", [[]])
     yield from plan_lines("calls", [["calls"], ["calls", "replace"]])
     yield from itertools.chain(plan_lines("plans by chance", [[]]), mark_lines(), map(verify_row, TABLE.rows("verify")), targets_lines())

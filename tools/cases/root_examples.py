@@ -141,4 +141,4 @@ def format_examples(script):
         some.play("q !8 damaged " + path.decode())
 
 
-EXAMPLES = (table_examples, format_examples)
+CASES = (table_examples, format_examples)

@@ -347,7 +347,7 @@ class Rows:
         while rows:
             row, *rows = rows
             if not (found := re.fullmatch(r"( *)for ([$\w |]+?) (in|of|range) (.*)", row)):
-                yield from filter(None, row.strip(" ").split(" // "))
+                yield from filter(None, row.lstrip(" ").split(" // "))
                 continue
             inside = list(itertools.takewhile(lambda one: one.startswith(found[1] + "  "), rows))
             rows, names = rows[len(inside) :], found[2].split(" | ")

@@ -5,14 +5,15 @@ to answer. All answers are those of models that share nothing with the program (
     python3 -m tools.lines.command_lines stdin    >crates/command_lines/stdin     a call and its arguments in each line
     python3 -m tools.lines.command_lines stdout   >crates/command_lines/stdout    what each has to answer
     python3 -m tools.lines.command_lines count    how many cases there are of each name
-    python3 -m tools.lines.command_lines check    compares the model with the worked examples, whose answers are written by hand, and each
-                                                  job with a second model of jobs; tells what differs, and which examples lack
+    python3 -m tools.lines.command_lines check    compares the model with the worked examples, whose answers are written by hand, each job with
+                                                  a second model of jobs, and all with the stored lines; tells what differs or lacks
 """
 import sys
 
-from tools.cases import commands, histories, mirrors, repositories, root_commands, several, stops, syncs
-from tools.cases.root_examples import EXAMPLES, ROWS, WRONG, is_journals
+from tools.cases import commands, histories, mirrors, repositories, root_commands, root_examples, several, stops, syncs
+from tools.cases.root_examples import ROWS, WRONG, is_journals
 from tools.lines.script import Script
+from tools.lines.words import same, say
 from tools.model.by_files import Job
 from tools.model.records import BASE
 from tools.model.root import Root
@@ -22,12 +23,11 @@ from tools.model.trees import DIR
 def said():
     """The script of all cases; each example has to be there, and what it answers has to be what is written with it."""
     script = Script()
-    topics = [(topic.TABLE, topic.CASES) for topic in (commands, root_commands, syncs, several, mirrors, histories, stops)]
-    for table, cases in (topics[0], (None, EXAMPLES), *topics[1:]):
-        for some in cases:
+    for topic in (commands, root_examples, root_commands, syncs, several, mirrors, histories, stops):
+        for some in topic.CASES:
             # The name of a topic means its steps.
             script.name = some if isinstance(some, str) else some.__name__
-            table.say_all(script, some) if isinstance(some, str) else some(script)
+            topic.TABLE.say_all(script, some) if isinstance(some, str) else some(script)
     return script
 
 
@@ -64,28 +64,23 @@ def compare_jobs(found):
     Job.write = compared
 
 
-def check():
-    jobs = []
-    compare_jobs(jobs)
-    script = said()
-    wrong = WRONG + lacking(script)
-    print(f"{len(script.lines)} lines, {len(jobs)} jobs as model/root.py has them, {len(wrong)} that differ")
-    print("".join(text + "\n" for text in wrong), end="")
-    sys.exit(bool(wrong))
-
-
 def main(asked):
+    jobs = []
     if asked == "check":
-        check()
+        compare_jobs(jobs)
     script = said()
     wrong = WRONG + lacking(script)
-    assert not wrong, "\n".join(wrong)
+    if asked == "check":
+        print(f"{len(script.lines)} lines, {len(jobs)} jobs as model/root.py has them, {len(wrong)} that differ")
+    if wrong:
+        sys.exit("\n".join(wrong))
+    lines = [*repositories.lines(), *zip(script.lines, script.answers)]
     if asked == "count":
-        texts = [f"{count} {name}" for name, count in script.cases.items()]
+        print("\n".join(f"{count} {name}" for name, count in script.cases.items()))
+    elif asked == "check":
+        same(lines, "command_lines")
     else:
-        part = ["stdin", "stdout"].index(asked)
-        texts = [line[part] for line in repositories.lines()] + (script.answers if part else script.lines)
-    sys.stdout.write("".join(text + "\n" for text in texts))
+        say(lines)
 
 
 if __name__ == "__main__":

@@ -1,8 +1,10 @@
 """How values stand in the lines of all programs, and in what these answer: bytes, nodes, fingerprints and trees.
 
 A node is one of tools/model/trees.py, a fingerprint one of tools/model/records.py."""
+import functools
 import hashlib
 import itertools
+import pathlib
 import re
 import sys
 
@@ -167,8 +169,18 @@ def placed(path, node, show=shown):
 
 def standing(nodes, show=shown):
     """What stands at each path but `/`, those nearer the root first, then in the order of their bytes."""
-    paths = sorted((path for path in nodes if path != b"/"), key=lambda path: (path.count(b"/"), path.split(b"/")))
-    return "".join(";" + placed(path, nodes[path], show) for path in paths)
+    paths = sorted((path for path in nodes if path != b"/"), key=depth_and_parts)
+    return "".join(shown_at(path, nodes[path]) if show is shown else ";" + placed(path, nodes[path], show) for path in paths)
+
+
+@functools.lru_cache(maxsize=4096)
+def depth_and_parts(path):
+    return path.count(b"/"), path.split(b"/")
+
+
+@functools.lru_cache(maxsize=4096)
+def shown_at(path, node):
+    return ";" + placed(path, node)
 
 
 def tree_word(nodes, show=bytes_word):
@@ -191,11 +203,30 @@ def tree_term(nodes):
     return puts_term(sorted(item for item in nodes.items() if item[0] != b"/"))
 
 
+PARTS = ("stdin", "stdout")
+
+
+def made(text):
+    """A call or an answer as bytes. What takes long is made where it is asked."""
+    text = text() if callable(text) else text
+    return (text if isinstance(text, bytes) else text.encode()) + b"\n"
+
+
+def same(lines, name):
+    """Whether the lines are the stored ones of the program; of the first that isn't it says which."""
+    stored = [open(f"crates/{name}/{part}", "rb") for part in PARTS]
+    for number, pair in enumerate(itertools.chain(lines, [None]), 1):
+        for part, text, file in zip(PARTS, pair or ("", ""), stored):
+            if file.readline() != (made(text) if pair else b""):
+                sys.exit(f"crates/{name}/{part}: line {number} isn't the one that is made")
+    print(f"{name}: {number - 1} lines as they are stored")
+
+
 def say(lines):
-    """Writes the calls or the answers, as the word of the program asks. What takes long is made where it is asked."""
-    if sys.argv[1:] not in (["stdin"], ["stdout"]):
-        sys.exit("Usage, at the top: python3 -m tools.lines.NAME stdin >crates/NAME/stdin, and stdout >crates/NAME/stdout")
-    part = ["stdin", "stdout"].index(sys.argv[1])
-    for line in lines:
-        text = line[part]() if callable(line[part]) else line[part]
-        sys.stdout.buffer.write((text if isinstance(text, bytes) else text.encode()) + b"\n")
+    """Writes the calls or the answers, or compares both with the stored ones, as the word of the program asks."""
+    if sys.argv[1:] == ["same"]:
+        same(lines, pathlib.Path(sys.argv[0]).stem)
+    elif sys.argv[1:] in ([part] for part in PARTS):
+        sys.stdout.buffer.writelines(made(line[PARTS.index(sys.argv[1])]) for line in lines)
+    else:
+        sys.exit("Usage, at the top: python3 -m tools.lines.NAME stdin >crates/NAME/stdin, stdout >crates/NAME/stdout, or same")

@@ -146,12 +146,12 @@ def reply(tree, catalogue, tag, value):
 
 def replies(tree, catalogue, text):
     """The stream of replies, or the first refusal: of the requests, in their order, and of what they are answered."""
-    out = REPLIES
+    out = bytearray(REPLIES)
     for tag, value in requests(text):
         out += reply(tree, catalogue, tag, value)
         if len(out) + 5 > LONGEST:
             raise Fault(f"too large: message {len(out) + 5}")
-    return out + item(LAST_REPLY, b"")
+    return bytes(out + item(LAST_REPLY, b""))
 
 
 def take(text):

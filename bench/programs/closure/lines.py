@@ -4,7 +4,9 @@ import sys
 
 sys.path.insert(0, sys.argv[1])
 
-from tools.cases.closures import trove as trove_of, waiting
+from tools.cases.closures import trove as trove_of
+from tools.lines.words import digits
+from tools.model.streams import trove_bytes
 
 count, changes, refused = map(int, sys.argv[2:5])
 is_hub = sys.argv[5:] == ["hub"]
@@ -24,12 +26,16 @@ def say(*words):
     print(*words, sep="\t")
 
 
+def wait(one):
+    say("trove", digits(trove_bytes(one)))
+
+
 for one in [hub(1)] * is_hub + [trove(place, 1) for place in range(count)]:
-    say(waiting(one))
+    wait(one)
 say("of" if changes + refused else "closed")
 for change in range(changes):
     one = hub(change + 2) if is_hub else trove(change * 37 % count, change + 2)
-    say(waiting(one))
+    wait(one)
     say("change", one.identity.name.decode())
 for change in range(refused):
     say("change", "hub:lib" if is_hub else "p%06d:lib" % (change * 37 % count))
