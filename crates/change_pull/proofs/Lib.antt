@@ -4,8 +4,11 @@ pub mod EmptyDir
 pub mod Ends
 pub mod Growing
 pub mod LastStaged
+pub mod Names
 pub mod Paths
 pub mod Pushed
+pub mod Sizes
+pub mod Standing
 pub mod Stops
 pub mod Taken
 pub mod Told

@@ -4,5 +4,7 @@ pub mod Front
 pub mod Gathered
 pub mod Given
 pub mod Halts
+pub mod Incoming
+pub mod IncomingLaws
 pub mod Open
 pub mod Writes

@@ -6,6 +6,7 @@
 mod checks;
 mod feeding;
 mod halt;
+mod incoming;
 mod item;
 mod laws;
 mod pull;
@@ -13,6 +14,7 @@ mod reading;
 mod staged;
 mod write;
 
+pub use incoming::Incoming;
 pub use laws::empty_dir;
 pub use pull::{Pull, Pulled};
 pub use staged::{Staged, StagedList};

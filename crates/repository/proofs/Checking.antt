@@ -42,12 +42,12 @@ ends_stop told o p Q S e (Err s) a b c le is refusal damage ends = subst (λ x. 
 
 -- the stop of a test without a disk
 fault_ends : (told : Bool) (o p : Option Refusal) (S : Name → Type 0) (e : Fault) (r : Result (Unit {0}) Stop) (a c : ℕ) → IsErrAnd r (λ s. s ≡ stop_of_fault e)
-    → (IsTrue told → (refusal : Refusal) → o ≡ Some refusal → p ≡ Some refusal) → IsVerdict {X = Unit {0}} o (Err e) → CheckEnds told p S r a c
+    → (IsTrue told → (refusal : Refusal) → o ≡ Some refusal → p ≡ Some refusal) → (IsTrue told → IsVerdict {X = Unit {0}} o (Err e)) → CheckEnds told p S r a c
 fault_ends told o p S e (Ok x) a c is refusal verdict = absurd is
 fault_ends told o p S e (Err s) a c is refusal verdict = subst (λ x. CheckEnds told p S (Err x) a c) (sym is) (by e verdict)
   where
-    by : (e : Fault) → IsVerdict {X = Unit {0}} o (Err e) → CheckEnds told p S (Err (stop_of_fault e)) a c
-    by (fault.Refused given) verdict = λ tells. refusal tells given verdict
+    by : (e : Fault) → (IsTrue told → IsVerdict {X = Unit {0}} o (Err e)) → CheckEnds told p S (Err (stop_of_fault e)) a c
+    by (fault.Refused given) verdict = λ tells. refusal tells given (verdict tells)
     by fault.Memory verdict = tt
 
 module _ {D : Type 0} {disk : DiskModel D} (laws : IsDisk disk) where
@@ -82,7 +82,7 @@ module _ {D : Type 0} {disk : DiskModel D} (laws : IsDisk disk) where
   }
 
   -- a test without the disk that stopped, passed on by `?`
-  pub checks_fault : {S : Tree → Name → Type 0} {o : Option Refusal} {goal : Tree → Option Refusal} {old new : D} {r : Result (Unit {0}) Stop} (e : Fault) → Checks disk (λ tree. None) S old new (Ok tt) → IsVerdict {X = Unit {0}} o (Err e) → IsErrAnd r (λ s. s ≡ stop_of_fault e)
+  pub checks_fault : {S : Tree → Name → Type 0} {o : Option Refusal} {goal : Tree → Option Refusal} {old new : D} {r : Result (Unit {0}) Stop} (e : Fault) → Checks disk (λ tree. None) S old new (Ok tt) → (IsTrue disk.tells → IsVerdict {X = Unit {0}} o (Err e)) → IsErrAnd r (λ s. s ≡ stop_of_fault e)
       → (IsTrue disk.tells → (refusal : Refusal) → o ≡ Some refusal → goal (disk.reads old) ≡ Some refusal) → Checks disk goal S old new r
   checks_fault {S = S} {o = o} {goal = goal} {old = old} {r = r} e first verdict is refusal = record {
     later = first.later;

@@ -2,10 +2,10 @@ pub mod Lists
 pub mod References
 pub mod Sources
 pub mod Making
-pub mod Carrying
 pub mod Held
 pub mod Stepping
 pub mod Checking
+mod Compared
 pub mod Placing
 pub mod Putting
 pub mod States

@@ -15,7 +15,10 @@ use Rattle.change_set.specs.ChangeSet.{content_cmp}
 use Rattle.repo_load.specs.content-store.Store.{content_path, file_bytes, IsContentName}
 use Rattle.repo_index.specs.Catalogue.{CatalogueParts, has_content}
 use Rattle.repo_load.specs.Counts.{IsUnnamedContent}
-use Rattle.repo_load.specs.Files.{contents_dir}
+use Rattle.repo_load.specs.Files.{contents_dir, repository_base}
+use Rattle.repo_load.specs.journal-log.Own.{staged}
+use Rattle.repo_load.specs.tree-disk.Clear.{is_within}
+use Rattle.tree_journal.proofs.tree-disk.Names.{within_rest}
 use Rattle.repo_load.proofs.CountedNames.{content_apart}
 use Rattle.repo_load.proofs.content-store.Digests.{digest_is_name}
 use Rattle.change_rel.proofs.file-stream.Digests.{digest_long}
@@ -108,3 +111,11 @@ carried_dir_kept c cs hash old new agrees dir = dir_kept c old new (λ q out. ag
 
 pub hash_at : (cs : List Carried) (i : ℕ) (content : Carried) → i < length cs → content ≡ get_or cs i content → All (λ (one : Carried). one.name ≡ sha1 one.bytes) cs → content.name ≡ sha1 content.bytes
 hash_at cs i content lt is all = subst (λ (one : Carried). one.name ≡ sha1 one.bytes) (sym is) (All-get_or (λ (one : Carried). one.name ≡ sha1 one.bytes) cs i content lt all)
+
+-- no file of a content is staged
+pub carried_not_staged : (c : CatalogueParts) (cs : List Carried) (q : Name) → is_within (staged repository_base) q ≡ true → IsCarriedName c cs q → ⊥
+carried_not_staged c cs q within is =
+    let a = within_rest (staged repository_base) q within in
+    let b = within_rest (content_path contents_dir is.content.name) q is.put.within in
+    let one : 112 ≡ 99 = sym (ap (λ (n : Name). get_or n 12 0) a.1) ∙ ap (λ (n : Name). get_or n 12 0) b.1 in
+    omega (arith, one)

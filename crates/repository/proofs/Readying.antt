@@ -1,5 +1,6 @@
 -- A disk that is made ready for the file of a commit.
-use Rattle.std.proofs.Common.{◌≡◌, ◌≢◌, inl, inr, ⊎_elim, ℕ, ◌+◌, Bool, true, false, cond, List, get_or, None, refl, ◌∙◌, ap, arith}
+use Rattle.std.proofs.Common.{◌≡◌, ◌≢◌, inl, inr, ⊎_elim, ℕ, ◌+◌, Bool, true, false, cond, List, get_or, None, refl, sym, ◌∙◌, ap, arith}
+use Rattle.repo_load.specs.journal-log.Own.{staged}
 use Rattle.std.proofs.lemmas.Bool.{cases_Bool}
 use Rattle.std.proofs.lemmas.List.Elements.{All-weaker}
 use Rattle.std.specs.FinMap.{get}
@@ -37,6 +38,13 @@ pub dirs_prepared : (c : CatalogueParts) (q : Name) → Among is_dir_name q → 
 dirs_prepared c q h = ⊎_elim
     (λ base. inl (same_means q repository_base base))
     (λ dir. inr (inl (same_means q contents_dir dir)))
+    (or_cases (same_name q repository_base) (same_name q contents_dir) h)
+
+-- neither of them is staged
+pub dirs_not_staged : (q : Name) → is_within (staged repository_base) q ≡ true → Among is_dir_name q → ⊥
+dirs_not_staged q within h = ⊎_elim
+    (λ base. absurd (cc (ap (is_within (staged repository_base)) (sym (same_means q repository_base base)) ∙ within)))
+    (λ dir. absurd (cc (ap (is_within (staged repository_base)) (sym (same_means q contents_dir dir)) ∙ within)))
     (or_cases (same_name q repository_base) (same_name q contents_dir) h)
 
 pub unnamed_prepared : (c : CatalogueParts) (q : Name) → IsUnnamedContent c q → IsPreparedName c q

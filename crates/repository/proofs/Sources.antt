@@ -22,6 +22,7 @@ use Rattle.repo_load.specs.State.{records_content, trove_records}
 use Rattle.repository.specs.Steps.{bytes_if_carried, carried}
 use Rattle.repository.specs.Tests.{collides, collision, collision_at, has_content_source, is_carried, lacks_content, missing_content}
 use Rattle.repository.proofs.Lists.{then_append, then_none}
+use Rattle.change_pull.proofs.Sizes.{none_behind}
 use Rattle.tree_journal.proofs.tree-disk.Order.{not_before}
 use Rattle.change_rel.proofs.cny-base.ByteLists.{same_bytes}
 use Rattle.change_rel.specs.trove-stream.FilesOf.{files_of}
@@ -33,14 +34,6 @@ use Rattle.tree_journal.proofs.tree-disk.ClearLaws.{or_cases as or_either}
 use Rattle.change_rel.proofs.cny-base.Below.{test_equal as same_size}
 
 -- ---- carried contents
-
--- behind a content of a name none has it
-pub none_behind : (c : Carried) (name : List ℕ) (size : ℕ) (cs : List Carried) → c.name ≡ name → AllByRecursion (λ (d : Carried). content_cmp c d ≡ Less) cs → list_any (is_carried name size) cs ≡ true → ⊥
-none_behind c name size [] is rises h = absurd (cc h)
-none_behind c name size (d ∷ ds) is rises h = ⊎_elim
-    (λ here. not_before c.name d.name (is ∙ sym (same_bytes d.name name (and_first (bytes_eq d.name name) (length d.bytes == size) here))) rises.0)
-    (λ there. none_behind c name size ds is rises.1 there)
-    (or_either (is_carried name size d) (list_any (is_carried name size) ds) h)
 
 abbrev has_name : List ℕ → Carried → Bool
 has_name name content = bytes_eq content.name name

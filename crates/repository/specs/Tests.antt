@@ -21,6 +21,7 @@ use Rattle.repo_index.specs.Catalogue.{CatalogueParts, found}
 use Rattle.repo_load.specs.State.{records_content}
 use Rattle.repository.specs.Parts.{AreMade, IsFirstRefused}
 pub use Rattle.change_rel.specs.trove-stream.FilesOf.{files_of}
+pub use Rattle.change_pull.specs.Incoming.{is_carried}
 
 -- ---- references
 
@@ -34,9 +35,6 @@ abbrev pub refs_of : List TroveParts → List TroveId
 refs_of troves = flat_map (λ (t : TroveParts). t.refs) troves
 
 -- ---- contents
-
-abbrev pub is_carried : List ℕ → ℕ → Carried → Bool
-is_carried name size content = bytes_eq content.name name && (length content.bytes == size)
 
 -- a content of this name and this size is carried, or a committed trove records one
 abbrev pub has_content_source : List TroveParts → List Carried → List ℕ → ℕ → Bool

@@ -1,24 +1,63 @@
 //! A change set, committed.
-ghost use Rattle.std.specs.Prelude.{◌≢◌, ◌≤◌, [], IfErr, IfOk, IsTrue, OnOk};
+ghost use Rattle.std.specs.Prelude.{◌≡◌, ◌≢◌, ◌≤◌, [], IfErr, IfOk, IsTrue, OnOk};
 ghost use Rattle.repo_load.specs.tree-disk.Clear.{is_within};
 ghost use Rattle.repo_load.specs.tree-disk.Confined.{Among, Confined};
 ghost use Rattle.change_set.specs.ChangeSet.{HasContents};
+ghost use Rattle.change_set.specs.declared.change.ChangeSet.{ChangeSet};
 ghost use Rattle.repo_load.specs.Files.{repository_base};
 ghost use Rattle.repo_load.specs.State.{RepositoryState};
 ghost use Rattle.repo_load.specs.Loading.{IsCatalogue};
+ghost use Rattle.change_pull.specs.Incoming.{staged_set, AreStaged};
 ghost use Rattle.repository.specs.Outcome.{AreSound, AtEveryMoment, EndsSo, HasCommitCause, MayCommit};
 ghost use Rattle.repository.specs.Order.{IsFirstStop};
 ghost use Rattle.repository.specs.Preparing.{IsWrittenName};
+ghost use Rattle.repo_load.specs.journal-log.Own.{staged};
 
 use crate::joining::{TroveIds, ids_of, join};
 use crate::testing::tested;
 use crate::writing::write;
-use change_set::ChangeSet;
+use change_pull::{Incoming, StagedList};
+use change_set::{ChangeSet, Parts};
 use repo_index::Catalogue;
 use repo_load::cny_base::Stop;
 use repo_load::stored_state;
 use repo_load::tree_disk::TreeDisk;
 use std::alloc::Global;
+
+// Commits the troves that parts make, with these contents: the clauses are those of `commit`, on a change set that has both.
+fn commit_contents<D: TreeDisk, I: Incoming>(
+    alloc: Global,
+    disk: &mut D,
+    catalogue: &mut Catalogue,
+    parts: &Parts,
+    contents: &I,
+) -> Result<TroveIds, Stop>
+    ghost change: { ChangeSet }
+    requires parts { parts.now ≡ change.parts }
+    requires named { I.named contents.now change.contents }
+    requires stand { IsTrue D.disk.tells → I.stand contents.now (staged repository_base) change.contents (D.disk.reads disk.old) }
+    requires contents { IsTrue D.disk.tells → HasContents change }
+    requires rests { IsTrue D.disk.tells → MayCommit D.disk catalogue.old disk.old }
+    ensures ends { IsTrue D.disk.tells → EndsSo D.disk change catalogue.old catalogue.new disk.old disk.new result }
+    ensures sound { IsTrue D.disk.tells → IfOk result (λ ids. ids ≢ [] → AreSound change.contents catalogue.old.troves (D.disk.reads disk.old)) }
+    ensures first { IsTrue D.disk.tells → IfErr result (IsFirstStop catalogue.old (D.disk.reads disk.old) change) }
+    ensures confined { IsTrue D.disk.tells → Confined D.disk (Among (is_within repository_base)) disk.old disk.new }
+    ensures only { IsTrue D.disk.tells → Confined D.disk (IsWrittenName catalogue.old change.contents) disk.old disk.new }
+    ensures any_moment { IsTrue D.disk.tells → (r : RepositoryState) → AtEveryMoment D.disk change disk.old disk.new r }
+    ensures rules { IsCatalogue catalogue.old → OnOk result (IsCatalogue catalogue.new) }
+    ensures later { D.disk.faults disk.old ≤ D.disk.faults disk.new }
+    ensures causes { IfErr result (HasCommitCause (D.disk.faults disk.old) (D.disk.faults disk.new)) }
+{
+    stored_state();
+    let added = tested(alloc, disk, catalogue, parts.get(), contents)?;
+    let ids = ids_of(alloc, added.troves())?;
+    if added.troves().is_empty() {
+        return Ok(ids);
+    }
+    write(alloc, disk, catalogue, contents, added.troves())?;
+    join(alloc, catalogue, added.troves())?;
+    Ok(ids)
+}
 
 /// Commits the troves that a change set makes, in the order of its parts, with the contents that it carries, and answers their
 /// ids. It takes effect as a whole or not at all, whenever the machine stops. A change set without parts changes nothing. After
@@ -66,14 +105,33 @@ pub fn commit<D: TreeDisk>(
     ensures later { D.disk.faults disk.old ≤ D.disk.faults disk.new }
     ensures causes { IfErr result (HasCommitCause (D.disk.faults disk.old) (D.disk.faults disk.new)) }
 {
-    stored_state();
-    let added = tested(alloc, disk, catalogue, change)?;
-    let ids = ids_of(alloc, added.troves())?;
-    if added.troves().is_empty() {
-        return Ok(ids);
-    }
-    let contents = change.contents.get();
-    write(alloc, disk, catalogue, contents, added.troves())?;
-    join(alloc, catalogue, added.troves())?;
-    Ok(ids)
+    commit_contents(alloc, disk, catalogue, &change.parts, &change.contents)
+}
+
+/// Commits the troves that parts make, with contents that were staged in the journal's directory, as `commit` does of the change
+/// set of these parts and of the bytes that the files have. A content is read when it comes to it, and one at a time.
+///
+/// The conditions are those of `commit`; and where the disk tells its tree each file lies in that directory and has the size that
+/// is told. What is left of them there counts for nothing. `stage` and a pull on its path count among the calls that wrote since.
+pub fn commit_staged<D: TreeDisk>(
+    alloc: Global,
+    disk: &mut D,
+    catalogue: &mut Catalogue,
+    parts: Parts,
+    contents: &StagedList,
+) -> Result<TroveIds, Stop>
+    requires staged { IsTrue D.disk.tells → AreStaged (staged repository_base) (D.disk.reads disk.old) contents.now }
+    requires contents { IsTrue D.disk.tells → HasContents (staged_set parts contents.now (D.disk.reads disk.old)) }
+    requires rests { IsTrue D.disk.tells → MayCommit D.disk catalogue.old disk.old }
+    ensures ends { IsTrue D.disk.tells → EndsSo D.disk (staged_set parts contents.now (D.disk.reads disk.old)) catalogue.old catalogue.new disk.old disk.new result }
+    ensures sound { IsTrue D.disk.tells → IfOk result (λ ids. ids ≢ [] → AreSound (staged_set parts contents.now (D.disk.reads disk.old)).contents catalogue.old.troves (D.disk.reads disk.old)) }
+    ensures first { IsTrue D.disk.tells → IfErr result (IsFirstStop catalogue.old (D.disk.reads disk.old) (staged_set parts contents.now (D.disk.reads disk.old))) }
+    ensures confined { IsTrue D.disk.tells → Confined D.disk (Among (is_within repository_base)) disk.old disk.new }
+    ensures only { IsTrue D.disk.tells → Confined D.disk (IsWrittenName catalogue.old (staged_set parts contents.now (D.disk.reads disk.old)).contents) disk.old disk.new }
+    ensures any_moment { IsTrue D.disk.tells → (r : RepositoryState) → AtEveryMoment D.disk (staged_set parts contents.now (D.disk.reads disk.old)) disk.old disk.new r }
+    ensures rules { IsCatalogue catalogue.old → OnOk result (IsCatalogue catalogue.new) }
+    ensures later { D.disk.faults disk.old ≤ D.disk.faults disk.new }
+    ensures causes { IfErr result (HasCommitCause (D.disk.faults disk.old) (D.disk.faults disk.new)) }
+{
+    commit_contents(alloc, disk, catalogue, &parts, contents)
 }

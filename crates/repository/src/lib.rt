@@ -25,12 +25,13 @@ mod refs;
 mod sets;
 mod sizes;
 mod staging;
+mod storing;
 mod testing;
 mod writing;
 
 pub use between_laws::{absolute_set, one_set, stored_between};
 pub use change_set;
-pub use committing::commit;
+pub use committing::{commit, commit_staged};
 pub use joining::TroveIds;
 pub use laws::{at_rest, commit_step, kept_files, same_contents};
 pub use repo_load::{
