@@ -1,5 +1,5 @@
 -- An update that completes itself ends in one way.
-use Rattle.std.proofs.Common.{append-nil, ◌≡◌, ◌<◌, ⊎_elim, inl, inr, ℕ, List, [], ◌∷◌, ◌++◌, map, take, slice_get, Bool, true, false, None, Ok, Err, refl, sym, ap, ◌∙◌, subst, arith}
+use Rattle.std.proofs.Common.{append-nil, ◌≡◌, ◌<◌, ⊎_elim, inl, inr, List, [], ◌∷◌, ◌++◌, map, take, slice_get, Bool, true, false, Ok, Err, sym, ap, ◌∙◌, subst, arith}
 use Rattle.std.specs.Prelude.{Result}
 use Rattle.std.proofs.lemmas.Bool.{cases_lt}
 use Rattle.std.proofs.lemmas.List.{append_assoc}

@@ -14,7 +14,7 @@ use Rattle.conary_cli.specs.cli-call.cny-laws.declared.failure.Failure.{Failure}
 use Rattle.conary_cli.specs.cli-call.cny-laws.declared.failure.Failure.TheVariants as failure
 use Rattle.conary_cli.specs.cli-call.cny-laws.Call.{CallState}
 use Rattle.conary_cli.specs.cli-call.cny-laws.Report.{End}
-use Rattle.conary_cli.specs.cli-call.cny-laws.State.{tree_of, Effect, IsNext, State, Takes, Then}
+use Rattle.conary_cli.specs.cli-call.cny-laws.State.{tree_of, IsNext, State, Takes, Then}
 use Rattle.conary_cli.specs.cli-call.cny-laws.Store.{IsStore}
 use Rattle.conary_cli.specs.cli-call.cny-laws.Stores.{repository_store}
 use Rattle.conary_cli.specs.cli-call.cny-laws.WholeCall.{OwnOutcome, RecoversBoth}

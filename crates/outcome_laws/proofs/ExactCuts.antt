@@ -8,19 +8,18 @@ use Rattle.conary_cli.specs.cli-call.cny-base.declared.stop.Stop.{Stop}
 use Rattle.conary_cli.specs.cli-call.cny-base.declared.stop.Stop.TheVariants as stop
 use Rattle.conary_cli.specs.cli-call.tree-disk.Tree.{Tree}
 use Rattle.conary_cli.specs.cli-call.tree-disk.Confined.{LeavesOnly}
-use Rattle.conary_cli.specs.cli-call.tree-disk.Disk.{DiskModel, IsDisk, IsImageOf}
+use Rattle.conary_cli.specs.cli-call.tree-disk.Disk.{DiskModel, IsDisk}
 use Rattle.conary_cli.specs.cli-call.Command.{disks}
-use Rattle.conary_cli.specs.cli-call.Line.{Moment}
 use Rattle.conary_cli.specs.cli-call.cny-laws.declared.failure.Failure.{Failure}
 use Rattle.conary_cli.specs.cli-call.cny-laws.declared.failure.Failure.TheVariants as failure
 use Rattle.conary_cli.specs.cli-call.cny-laws.declared.opened.Opened.{Opened}
-use Rattle.conary_cli.specs.cli-call.cny-laws.Call.{CallState, NotOpened, OpensRepository, OpensRoot, StopsOpening}
+use Rattle.conary_cli.specs.cli-call.cny-laws.Call.{CallState, OpensRepository, OpensRoot, StopsOpening}
 use Rattle.conary_cli.specs.cli-call.cny-laws.Report.{status_of, End, Reports}
-use Rattle.conary_cli.specs.cli-call.cny-laws.State.{Effect, IsNext, Meaning, State, Takes}
+use Rattle.conary_cli.specs.cli-call.cny-laws.State.{IsNext, Meaning, State, Takes}
 use Rattle.conary_cli.specs.cli-call.cny-laws.Stops.{repository_failure, root_failure}
-use Rattle.conary_cli.specs.cli-call.cny-laws.Store.{IsStore, OneOf, Recovers}
+use Rattle.conary_cli.specs.cli-call.cny-laws.Store.{IsStore, OneOf}
 use Rattle.conary_cli.specs.cli-call.cny-laws.Stores.{repository_store, root_store}
-use Rattle.conary_cli.specs.cli-call.cny-laws.WholeCall.{CallCause, CallEnds, CallFrom, IsCall, IsNoCall, LiveOpened, Outcome, RecoversBoth, RestBoth}
+use Rattle.conary_cli.specs.cli-call.cny-laws.WholeCall.{CallCause, CallFrom, IsCall, IsNoCall, LiveOpened, Outcome, RecoversBoth}
 use Rattle.conary_cli.proofs.cli-call.cny-laws.EditedSystems.{the_system}
 use Rattle.conary_cli.proofs.cli-call.cny-laws.system-core.CallLaws.{no_rise}
 use Rattle.conary_cli.proofs.cli-call.cny-laws.system-core.Opened.{never_blocked}
@@ -37,15 +36,15 @@ use Rattle.conary_cli.specs.cli-call.cny-laws.Reading.{given}
 use Rattle.conary_cli.specs.Several.{before_lines, of_input, AreBatchLines, AreDemoLines, LinesCause, LinesWereRun, Making}
 use Rattle.change_rel.proofs.cny-base.Lists.{contains_cases, nothing_in}
 use Rattle.outcome_laws.specs.OneOutcome.{IsState}
-use Rattle.outcome_laws.specs.Machine.{answer_of, none_run, Answers, AnswersCall, HasLines}
+use Rattle.outcome_laws.specs.Machine.{none_run, Answers, AnswersCall, HasLines}
 use Rattle.outcome_laws.specs.Histories.{lines_done, AfterCall, AfterLines, LinesOf}
 use Rattle.outcome_laws.specs.Images.{CrashesTo, RecoversIn}
-use Rattle.outcome_laws.specs.Cuts.{CallWrites, CannotOpen, Counts, CountsTo, WriteLines}
+use Rattle.outcome_laws.specs.Cuts.{CallWrites, CannotOpen, CountsTo, WriteLines}
 use Rattle.outcome_laws.specs.Play.{told_sink}
 use Rattle.outcome_laws.proofs.Counted.{batch_lines, batch_refused, call_counted, demo_lines, demo_refused, none_refused, outcome_same, several_counted, single_answers, single_refused, single_taken, RefusedAnswer}
 use Rattle.outcome_laws.proofs.CountedLines.{run_lines, LinesAnswered, LinesCount, WritesTo}
-use Rattle.outcome_laws.proofs.CrashLeft.{call_crashes, left_now, not_opened, one_of_two, reads_in, rest_left, weaker_left}
-use Rattle.outcome_laws.proofs.OnDisks.{ends_still, in_state, never_effect, single_words}
+use Rattle.outcome_laws.proofs.CrashLeft.{left_now, not_opened, one_of_two, reads_in, rest_left, weaker_left}
+use Rattle.outcome_laws.proofs.OnDisks.{ends_still, in_state, single_words}
 
 -- ---- statuses
 
@@ -134,14 +133,30 @@ module _ {T P : Type 0} {root_disk : DiskModel T} {repo_disk : DiskModel P} (roo
   abbrev Leads : State → State → Type 0
   Leads s t = CountsTo tree status out l s t
 
-  abbrev Goal : Type 0
-  Goal = CrashesTo root_disk repo_disk (LedTo Is tree status out l) root' repo'
-
   first : RecoversIn Is (root_disk.reads root) (repo_disk.reads repo)
   first = reads_in root_disk_laws repo_disk_laws root_told repo_told Is root repo crashes
 
   abbrev s : State
   s = first.state
+
+  -- nothing was done, or one of the disks wasn't opened
+  abbrev Unopened : Type 0
+  Unopened = ((root' ≡ root) × (repo' ≡ repo)) ⊎ ((e : Failure) × StopsOpening root_disk repo_disk root root' repo repo' e)
+
+  -- from any of the states
+  abbrev FromAny : Type 0
+  FromAny = CrashesTo root_disk repo_disk (LedTo Is tree status out l) root' repo'
+
+  -- from the one to which the disks recovered
+  abbrev FromOne : Type 0
+  FromOne = CrashesTo root_disk repo_disk (LedTo (λ t. t ≡ s) tree status out l) root' repo'
+
+  abbrev Goal : Type 0
+  Goal = (Unopened × FromAny) ⊎ FromOne
+
+  from_any : Goal → FromAny
+  from_any (inl unopened) = unopened.1
+  from_any (inr one) = weaker_left root_disk repo_disk (λ u led. (led.0, subst Is (sym led.1) first.among, led.2)) root' repo' one
 
   state : IsState s
   state = in_state Is (root_disk.reads root) (repo_disk.reads repo) first
@@ -151,8 +166,11 @@ module _ {T P : Type 0} {root_disk : DiskModel T} {repo_disk : DiskModel P} (roo
 
   -- nothing was done
   no_call : (e : Failure) → IsNoCall e before now err err' status → ((status ≡ status_of (Err e)) ⊎ (status ≡ 7) → out ≡ [] → (t : State) → Leads t t) → Goal
-  no_call e is leads = weaker_left root_disk repo_disk (λ t old. (t, old, leads (⊎_elim (λ r. told_status e err err' status r) (λ r. inr (⊎_elim (λ own. own) (λ memory. memory) (told_status failure.Memory err err' status r))) is.reports) silent t)) root' repo'
-      (subst (λ (m : CallState T P). CrashesTo root_disk repo_disk Is m.root m.repo) (sym is.same) crashes)
+  no_call e is leads = inl (
+    inl (ap (λ (m : CallState T P). m.root) is.same, ap (λ (m : CallState T P). m.repo) is.same),
+    weaker_left root_disk repo_disk (λ t old. (t, old, leads (⊎_elim (λ r. told_status e err err' status r) (λ r. inr (⊎_elim (λ own. own) (λ memory. memory) (told_status failure.Memory err err' status r))) is.reports) silent t)) root' repo'
+        (subst (λ (m : CallState T P). CrashesTo root_disk repo_disk Is m.root m.repo) (sym is.same) crashes),
+  )
     where
       silent : out ≡ []
       silent = let written : ◌≡◌ {A = Option (List ℕ)} (Some out) (Some []) = ap (λ (m : CallState T P). m.out.written) is.same in cc written
@@ -160,29 +178,45 @@ module _ {T P : Type 0} {root_disk : DiskModel T} {repo_disk : DiskModel P} (roo
   -- ---- by the state after the call
 
   module _ (m : Meaning) (bytes : List ℕ) (end : End) (f : CallFrom root_disk repo_disk m bytes s before now end) where
-    -- for each of the states that a crash leaves
-    cut_call : ((t : State) → Leads t t) → (IsState f.next → Leads s f.next) → Goal
-    cut_call still leads image far is is_far = by (call_crashes root_disk_laws repo_disk_laws root_told repo_told Is m bytes before now end crashes s first.among f image far is is_far)
+    -- what both disks lived from the moment on at which they were opened
+    abbrev Live : Type 0
+    Live = LiveOpened root_disk repo_disk before now (λ at. LeavesOnly root_disk at root' (OneOf root_store s.root f.next.root)) (λ at. LeavesOnly repo_disk at repo' (OneOf repository_store s.repository f.next.repository))
+
+    -- the one of the two states or the other
+    cut_opened : Leads s s → (IsState f.next → Leads s f.next) → Live → FromOne
+    cut_opened still leads live image far is is_far = by (one_of_two (λ t. (t ≡ s) ⊎ (t ≡ f.next)) s f.next (inl refl) (inr refl) image far f.apart
+        (left_now root_disk_laws (OneOf root_store s.root f.next.root) live.root root' live.root_lives image is)
+        (left_now repo_disk_laws (OneOf repository_store s.repository f.next.repository) live.repo repo' live.repo_lives far is_far))
       where
-        by : RecoversIn (λ t. Is t ⊎ (t ≡ f.next)) image far → RecoversIn (LedTo Is tree status out l) image far
+        by : RecoversIn (λ t. (t ≡ s) ⊎ (t ≡ f.next)) image far → RecoversIn (LedTo (λ t. t ≡ s) tree status out l) image far
         by c = record {
           state = c.state;
           among = ⊎_elim
-              (λ old. (c.state, old, still c.state))
-              (λ new. (s, first.among, subst (Leads s) (sym new) (leads (subst IsState new (in_state (λ t. Is t ⊎ (t ≡ f.next)) image far c)))))
+              (λ old. (s, refl, subst (Leads s) (sym old) still))
+              (λ new. (s, refl, subst (Leads s) (sym new) (leads (subst IsState new (in_state (λ t. (t ≡ s) ⊎ (t ≡ f.next)) image far c)))))
               c.among;
           root = c.root;
           repo = c.repo;
         }
 
+    -- for each of the states that a crash leaves
+    cut_call : ((t : State) → Leads t t) → (IsState f.next → Leads s f.next) → Goal
+    cut_call still leads = ⊎_elim
+        (λ stops. inl (
+          inr (stops.failure, stops.stops),
+          weaker_left root_disk repo_disk (λ t old. (t, old, still t)) root' repo' (not_opened root_disk_laws repo_disk_laws root_told repo_told Is root repo crashes root' repo' stops.failure stops.stops),
+        ))
+        (λ live. inr (cut_opened (still s) leads live))
+        f.pair
+
     -- where the disks were opened, and nothing has changed
-    opened_still : f.next ≡ s → Leads s s → LiveOpened root_disk repo_disk before now (λ at. LeavesOnly root_disk at root' (OneOf root_store s.root f.next.root)) (λ at. LeavesOnly repo_disk at repo' (OneOf repository_store s.repository f.next.repository)) → Goal
+    opened_still : f.next ≡ s → Leads s s → Live → FromOne
     opened_still same leads live image far is is_far = by (one_of_two (λ t. t ≡ s) s f.next refl same image far f.apart
         (left_now root_disk_laws (OneOf root_store s.root f.next.root) live.root root' live.root_lives image is)
         (left_now repo_disk_laws (OneOf repository_store s.repository f.next.repository) live.repo repo' live.repo_lives far is_far))
       where
-        by : RecoversIn (λ t. t ≡ s) image far → RecoversIn (LedTo Is tree status out l) image far
-        by c = record { state = c.state; among = (s, first.among, subst (Leads s) (sym c.among) leads); root = c.root; repo = c.repo }
+        by : RecoversIn (λ t. t ≡ s) image far → RecoversIn (LedTo (λ t. t ≡ s) tree status out l) image far
+        by c = record { state = c.state; among = (s, refl, subst (Leads s) (sym c.among) leads); root = c.root; repo = c.repo }
 
   -- ---- a call that is refused
 
@@ -218,9 +252,11 @@ module _ {T P : Type 0} {root_disk : DiskModel T} {repo_disk : DiskModel P} (roo
       (λ stops.
       let same : stops.failure ≡ failure.Refused r = cc (sym stops.is) in
       let cannot = refused_opening r stops.failure same stops.stops in
-      weaker_left root_disk repo_disk (λ t old. (t, old, not_counted tree status out l t cannot some silent)) root' repo'
-      (not_opened root_disk_laws repo_disk_laws root_told repo_told Is root repo crashes root' repo' stops.failure stops.stops))
-      (λ live. opened_still m bytes (Err (failure.Refused r)) f f.ends.1 (refused_counts tree status out l s s r answer own silent refl) live)
+      inl (
+        inr (stops.failure, stops.stops),
+        weaker_left root_disk repo_disk (λ t old. (t, old, not_counted tree status out l t cannot some silent)) root' repo' (not_opened root_disk_laws repo_disk_laws root_told repo_told Is root repo crashes root' repo' stops.failure stops.stops),
+      ))
+      (λ live. inr (opened_still m bytes (Err (failure.Refused r)) f f.ends.1 (refused_counts tree status out l s s r answer own silent refl) live))
       f.pair
     where
       own : (status ≡ 1) ⊎ (status ≡ 7)
@@ -251,7 +287,7 @@ module _ {T P : Type 0} {root_disk : DiskModel T} {repo_disk : DiskModel P} (roo
     single_ended (Ok x) f reports cause =
         let rests = f.rests tt in
         let is : IsState f.next = record { root = the_system (root_disk.reads root') f.next.root rests.root.stored; repository = rests.repo.stored.repository } in
-        rest_left root_disk repo_disk repo_laws (LedTo Is tree status out l) now f.next (s, first.among, done f.next is reports.0 f.ends) rests
+        inr (rest_left root_disk repo_disk repo_laws (LedTo (λ t. t ≡ s) tree status out l) now f.next (s, refl, done f.next is reports.0 f.ends) rests)
     single_ended (Err (failure.Refused r)) f reports cause =
         refused_call (meaning c) bytes r f reports cause (single_refused l c are (single_words l.words c are) s r (outcome_same (meaning c) s bytes l.input (Err r) same f.ends.0) state)
     single_ended (Err failure.InputFault) f reports cause = absurd (no_rise cause.0)
@@ -286,15 +322,15 @@ module _ {T P : Type 0} {root_disk : DiskModel T} {repo_disk : DiskModel P} (roo
   -- they were run
   module _ (lines : List CallLine) (has : LinesOf l s lines) (opened : Opened) (end : End) (h : LinesCount root_disk repo_disk lines s (told_sink []) (record { at = disks root' repo' opened; out = told_sink out }) end) where
     each_state : ((t : State) → (t ≡ h.before) ⊎ (t ≡ h.last) → IsState t → Leads s t) → Goal
-    each_state leads image far is is_far = by (h.crashes image far is is_far)
+    each_state leads = inr (λ image far is is_far. by image far (h.crashes image far is is_far))
       where
         among : (t : State) → Contains (h.before ∷ h.last ∷ []) t → (t ≡ h.before) ⊎ (t ≡ h.last)
         among t in' = ⊎_elim (λ one. inl (sym one)) (λ later. ⊎_elim (λ two. inr (sym two)) (λ none. absurd (nothing_in t none)) (contains_cases h.last t [] later)) (contains_cases h.before t (h.last ∷ []) in')
 
-        by : RecoversIn (Contains (h.before ∷ h.last ∷ [])) image far → RecoversIn (LedTo Is tree status out l) image far
-        by c = record {
+        by : (image far : Tree) → RecoversIn (Contains (h.before ∷ h.last ∷ [])) image far → RecoversIn (LedTo (λ t. t ≡ s) tree status out l) image far
+        by image far c = record {
           state = c.state;
-          among = (s, first.among, leads c.state (among c.state c.among) (in_state (Contains (h.before ∷ h.last ∷ [])) image far c));
+          among = (s, refl, leads c.state (among c.state c.among) (in_state (Contains (h.before ∷ h.last ∷ [])) image far c));
           root = c.root;
           repo = c.repo;
         }
@@ -371,6 +407,13 @@ module _ {T P : Type 0} {root_disk : DiskModel T} {repo_disk : DiskModel P} (roo
       (λ seven. none_counts tree status out l t t (seventh status seven) silent refl)
       told)
 
-  pub something : IsSomething root_disk repo_disk l.words before now err err' status → Goal
-  something (inl some) = program some.0 some.1 some.2
-  something (inr none) = no_call failure.Memory none (λ told silent t. none_counts tree status out l t t (seventh status (⊎_elim (λ own. own) (λ seven. seven) told)) silent refl)
+  ends_so : IsSomething root_disk repo_disk l.words before now err err' status → Goal
+  ends_so (inl some) = program some.0 some.1 some.2
+  ends_so (inr none) = no_call failure.Memory none (λ told silent t. none_counts tree status out l t t (seventh status (⊎_elim (λ own. own) (λ seven. seven) told)) silent refl)
+
+  pub something : IsSomething root_disk repo_disk l.words before now err err' status → FromAny
+  something h = from_any (ends_so h)
+
+  -- where both disks were opened, from one state
+  pub from_opened : IsSomething root_disk repo_disk l.words before now err err' status → Unopened ⊎ ((t : State) × Is t × CrashesTo root_disk repo_disk (LedTo (λ u. u ≡ t) tree status out l) root' repo')
+  from_opened h = ⊎_elim (λ unopened. inl unopened.0) (λ one. inr (s, first.among, one)) (ends_so h)

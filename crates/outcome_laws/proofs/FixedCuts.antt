@@ -1,20 +1,18 @@
--- Once nothing is unsynced on either disk, the cuts are fixed; and when that is so.
-use Rattle.std.proofs.Common.{◌≡◌, ◌⊎◌, inl, inr, ⊎_elim, ℕ, ◌≤◌, Bool, true, false, List, [], Result, Ok, Err, refl, sym, ap, ◌∙◌, subst, arith}
+-- Once nothing is unsynced on either disk, the cuts are fixed, and when that is so; and so they are once a call opened both.
+use Rattle.std.proofs.Common.{◌≡◌, ◌⊎◌, inl, inr, ⊎_elim, ℕ, ◌≤◌, Bool, true, false, List, [], ◌∷◌, Result, Ok, Err, refl, sym, ap, subst, arith}
 use Rattle.cny_flow.specs.Flow.{SinkState}
 use Rattle.conary_cli.specs.cli-call.cny-base.declared.text.OutOfMemory.{OutOfMemory}
-use Rattle.conary_cli.specs.cli-call.tree-disk.Disk.{IsImageOf}
 use Rattle.conary_cli.specs.cli-call.tree-disk.Confined.{IsSynced}
 use Rattle.conary_cli.specs.cli-call.tree-disk.Tree.{Tree}
 use Rattle.conary_cli.proofs.cli-call.tree-disk.Laws.{reads_image}
 use Rattle.conary_cli.specs.cli-call.cny-laws.declared.failure.Failure.{Failure}
 use Rattle.conary_cli.specs.cli-call.cny-laws.declared.failure.Failure.TheVariants as failure
-use Rattle.conary_cli.specs.cli-call.cny-laws.Call.{CallState, NotOpened}
-use Rattle.conary_cli.specs.cli-call.cny-laws.Edits.{edits_beside}
+use Rattle.conary_cli.specs.cli-call.cny-laws.Call.{CallState}
 use Rattle.conary_cli.specs.cli-call.cny-laws.Report.{status_of, End, Reports}
 use Rattle.conary_cli.specs.cli-call.cny-laws.State.{Meaning, Scope, State}
 use Rattle.conary_cli.specs.cli-call.cny-laws.Store.{IsStore, Recovers}
 use Rattle.conary_cli.specs.cli-call.cny-laws.Stores.{repository_store, root_store}
-use Rattle.conary_cli.specs.cli-call.cny-laws.WholeCall.{after_edits, IsCall, IsNoCall}
+use Rattle.conary_cli.specs.cli-call.cny-laws.WholeCall.{IsCall, IsNoCall}
 use Rattle.cny_batch.specs.declared.line.Line.{Line}
 use Rattle.conary_cli.specs.cli-words.declared.call_words.Call.{Call}
 use Rattle.conary_cli.specs.cli-words.declared.call_words.Call.TheVariants as call
@@ -24,19 +22,20 @@ use Rattle.conary_cli.specs.Several.{before_lines, of_input, AreBatchLines, AreD
 use Rattle.tree_memory.specs.declared.memory.MemoryTree.{MemoryTree}
 use Rattle.tree_memory.specs.Memory.{memory_disk, memory_laws, state}
 use Rattle.outcome_laws.specs.declared.playing.Event.{Event}
+use Rattle.outcome_laws.specs.declared.playing.Event.TheVariants as event
 use Rattle.outcome_laws.specs.Images.{CrashesTo, RecoversIn}
-use Rattle.outcome_laws.specs.Play.{told_sink, AreLeft, EventEnd, MakesAll, MakesBy, WasMade}
-use Rattle.outcome_laws.specs.Played.{BlocksLog, IsBehind, LeadThrough, NotBothOpened, Stands}
-use Rattle.outcome_laws.proofs.CrashLeft.{left_synced, weaker_left}
-use Rattle.outcome_laws.proofs.ExactCuts.{told_status}
-use Rattle.outcome_laws.proofs.PlayedStates.{all_stand, by_stand, is_synced, weaker_stands}
+use Rattle.outcome_laws.specs.Play.{answered, told_sink, AreLeft, EventEnd, MakesAll, MakesBy, WasMade}
+use Rattle.outcome_laws.specs.Played.{FoldsTo, LeaveRoom, NotBothOpened, Stands}
+use Rattle.outcome_laws.proofs.CrashLeft.{left_synced}
+use Rattle.outcome_laws.proofs.ExactCuts.{told_status, LedTo}
+use Rattle.outcome_laws.proofs.PlayedStates.{by_folds, by_stand, call_opened, first_folds, from_one, is_synced, one_then, promised, weaker_stands, HasLogState, IsStuck, StandsSo}
 
 -- ---- one state
 
 -- all that is left of two disks of which nothing is unsynced recovers to one of the states
-module _ (Is : State → Type 0) (root repo : MemoryTree) (synced : IsSynced memory_disk root) (far_synced : IsSynced memory_disk repo) where
+module _ (HasRoom : Type 0) (Is : State → Type 0) (root repo : MemoryTree) (synced : IsSynced memory_disk root) (far_synced : IsSynced memory_disk repo) where
   abbrev OneState : Type 0
-  OneState = (t : State) × Is t × Stands (λ u. u ≡ t) root repo
+  OneState = (t : State) × Is t × StandsSo HasRoom (λ u. u ≡ t) root repo
 
   one_left : CrashesTo memory_disk memory_disk Is root repo → OneState
   one_left crashes = (c.state, c.among, inl one)
@@ -52,43 +51,65 @@ module _ (Is : State → Type 0) (root repo : MemoryTree) (synced : IsSynced mem
         repo = subst (λ (t : Tree). Recovers repository_store t c.state.repository) (sym (left_synced memory_disk repo far_synced far is_far)) c.repo;
       }
 
-  one_blocked : BlocksLog Is root repo → OneState
-  one_blocked w = (
-    after_edits b.base (edits_beside w.puts w.edits),
+  one_stuck : (HasRoom → ⊥) → IsStuck Is root repo → OneState
+  one_stuck none stuck = (
+    b.state,
     b.among,
-    inr (record {
-      tree = w.tree;
-      edits = w.edits;
-      puts = w.puts;
-      are = w.are;
-      reads = w.reads;
-      synced = w.synced;
-      set = w.set;
-      holds = w.holds;
-      cannot = w.cannot;
-      behind = λ far is. record {
-        base = b.base;
-        among = refl;
-        root = b.root;
-        repo = subst (λ (t : Tree). Recovers repository_store t b.base.repository) (sym (left_synced memory_disk repo far_synced far is)) b.repo;
-      };
-    }),
+    inr (
+      none,
+      (
+        record {
+          puts = stuck.0.puts;
+          synced = stuck.0.synced;
+          set = stuck.0.set;
+          holds = stuck.0.holds;
+          behind = λ far is. record {
+            state = b.state;
+            among = refl;
+            root = b.root;
+            repo = subst (λ (t : Tree). Recovers repository_store t b.state.repository) (sym (left_synced memory_disk repo far_synced far is)) b.repo;
+          };
+        },
+        stuck.1,
+      ),
+    ),
   )
     where
-      b : IsBehind Is w.tree w.edits w.puts (state repo).reads
-      b = w.behind (state repo).reads (reads_image memory_laws repo)
+      b : HasLogState Is stuck.0.puts (state root).reads (state repo).reads
+      b = stuck.0.behind (state repo).reads (reads_image memory_laws repo)
 
-  one_state : Stands Is root repo → OneState
+  one_state : StandsSo HasRoom Is root repo → OneState
   one_state (inl crashes) = one_left crashes
-  one_state (inr w) = one_blocked w
+  one_state (inr way) = one_stuck way.0 way.1
 
 -- the later events lead from it
 pub cuts_fixed : IsStore repository_store → (events rest : List Event) (ends later : List EventEnd) (result : Result (Unit {0}) OutOfMemory) (root mid root' repo far repo' : MemoryTree) (s : State) → CrashesTo memory_disk memory_disk (λ t. t ≡ s) root repo
-    → MakesAll events ends root mid repo far → IsSynced memory_disk mid → IsSynced memory_disk far → MakesBy result rest later mid root' far repo' → (t : State) × LeadThrough events ends s t × Stands (LeadThrough rest later t) root' repo'
+    → MakesAll events ends root mid repo far → IsSynced memory_disk mid → IsSynced memory_disk far → MakesBy result rest later mid root' far repo'
+    → (t : State) × FoldsTo events ends s t × Stands (LeaveRoom events ends × LeaveRoom rest later) (FoldsTo rest later t) root' repo'
 cuts_fixed repo_laws events rest ends later result root mid root' repo far repo' s crashes made synced far_synced more =
-    let here = weaker_stands (λ u led. subst (λ (t : State). LeadThrough events ends t u) led.1 led.2) mid far (all_stand repo_laws events ends (λ t. t ≡ s) root mid repo far (inl crashes) made) in
-    let one = one_state (LeadThrough events ends s) mid far synced far_synced here in
-    (one.0, one.1, weaker_stands (λ u led. subst (λ (t : State). LeadThrough rest later t u) led.1 led.2) root' repo' (by_stand repo_laws result rest later (λ t. t ≡ one.0) mid root' far repo' one.2 more))
+    let one = one_state (LeaveRoom events ends) (FoldsTo events ends s) mid far synced far_synced (first_folds repo_laws (Ok tt) events ends root mid repo far s crashes made) in
+    (one.0, one.1, promised (LeaveRoom events ends × LeaveRoom rest later) (FoldsTo rest later one.0) root' repo' (by_folds repo_laws result (LeaveRoom events ends) rest later mid root' far repo' one.0 one.2 more))
+
+-- ---- a call that opens both disks
+
+-- It and the later events lead from one state.
+pub cuts_opened : IsStore repository_store → (events rest : List Event) (l : Line) (ends later : List EventEnd) (status : ℕ) (out : List ℕ) (result : Result (Unit {0}) OutOfMemory) (root mid here root' repo far there repo' : MemoryTree) (s : State)
+    → CrashesTo memory_disk memory_disk (λ t. t ≡ s) root repo → MakesAll events ends root mid repo far → WasMade l status out mid here far there → MakesBy result rest later here root' there repo'
+    → NotBothOpened mid here far there ⊎ ((t : State) × FoldsTo events ends s t × Stands (LeaveRoom rest later) (FoldsTo (event.Call l ∷ rest) (answered (state mid).reads status out ∷ later) t) root' repo')
+cuts_opened repo_laws events rest l ends later status out result root mid here root' repo far there repo' s crashes made call more = ⊎_elim
+    (λ unopened. inl unopened)
+    (λ one. inr (one.0, one.1, from one.0 one.2))
+    (call_opened repo_laws (LeaveRoom events ends) (FoldsTo events ends s) l status out mid here far there (first_folds repo_laws (Ok tt) events ends root mid repo far s crashes made) call)
+  where
+    from : (t : State) → CrashesTo memory_disk memory_disk (LedTo (λ u. u ≡ t) (state mid).reads status out l) here there
+        → Stands (LeaveRoom rest later) (FoldsTo (event.Call l ∷ rest) (answered (state mid).reads status out ∷ later) t) root' repo'
+    from t left =
+        let end = answered (state mid).reads status out in
+        promised (LeaveRoom rest later) (FoldsTo (event.Call l ∷ rest) (end ∷ later) t) root' repo'
+        (weaker_stands (Unit {0} × LeaveRoom (event.Call l ∷ rest) (end ∷ later)) (LeaveRoom rest later) (λ room. (tt, (tt, room))) (λ u is. is) root' repo'
+        (from_one repo_laws (Unit {0}) (event.Call l ∷ rest) (end ∷ later) t root' repo'
+        (one_then repo_laws (Unit {0}) (λ u. u ≡ t) (event.Call l) end rest later root' repo'
+        (by_stand repo_laws result rest later (Unit {0} × Unit {0}) (LedTo (λ u. u ≡ t) (state mid).reads status out l) here root' there repo' (inl left) more))))
 
 -- ---- when nothing is unsynced
 

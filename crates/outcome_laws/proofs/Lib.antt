@@ -34,6 +34,8 @@ pub mod MadeEvents
 pub mod CanDecide
 pub mod ExactCuts
 pub mod BlockedLogs
+pub mod NearLogs
+pub mod LogStates
 pub mod ToldFolds
 pub mod PlayedStates
 pub mod FixedCuts

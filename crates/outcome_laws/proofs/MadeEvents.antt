@@ -16,7 +16,7 @@ use Rattle.outcome_laws.specs.Play.{answered, edit_of, met, stopped, statuses_of
 pub both_statuses : (ends more : List EventEnd) → statuses_of (ends ++ more) ≡ statuses_of ends ++ statuses_of more
 both_statuses [] more = refl
 both_statuses (answered tree status out ∷ ends) more = ap (λ (l : List ℕ). status ∷ l) (both_statuses ends more)
-both_statuses (stopped ∷ ends) more = ap (λ (l : List ℕ). 255 ∷ l) (both_statuses ends more)
+both_statuses (stopped tree status out ∷ ends) more = ap (λ (l : List ℕ). 255 ∷ l) (both_statuses ends more)
 both_statuses (met tree ∷ ends) more = both_statuses ends more
 
 all_gained : (first mid last : List ℕ) (ends more : List EventEnd) → mid ≡ first ++ statuses_of ends → last ≡ mid ++ statuses_of more → last ≡ first ++ statuses_of (ends ++ more)
@@ -92,17 +92,17 @@ on_err_both (Ok x) f h g = h
 on_err_both (Err e) f h g = f h g
 
 pub stopped_made : (e : Event) (l : Line) (repo_calls root_calls pick : ℕ) (statuses statuses' : List ℕ) (root mid root' repo far repo' : MemoryTree) → e ≡ event.Stopped l repo_calls root_calls pick → statuses' ≡ statuses ++ 255 ∷ []
-    → RanStopped l repo_calls root_calls root mid repo far → AreLeft pick mid root' far repo' → IsMade e statuses statuses' root root' repo repo'
+    → (status : ℕ) × (out : List ℕ) × RanStopped l repo_calls root_calls status out root mid repo far → AreLeft pick mid root' far repo' → IsMade e statuses statuses' root root' repo repo'
 stopped_made e l repo_calls root_calls pick statuses statuses' root mid root' repo far repo' is gained ran left =
-    subst (λ (x : Event). IsMade x statuses statuses' root root' repo repo') (sym is) (record { end = stopped; gained = gained; makes = (mid, far, ran, left) })
+    subst (λ (x : Event). IsMade x statuses statuses' root root' repo repo') (sym is) (record { end = stopped (state root).reads ran.0 ran.1; gained = gained; makes = (refl, mid, far, ran.2, left) })
 
 pub stopped_missed : (e : Event) (l : Line) (repo_calls root_calls pick : ℕ) (statuses statuses' : List ℕ) (root mid root' repo far repo' : MemoryTree) → e ≡ event.Stopped l repo_calls root_calls pick → statuses' ≡ statuses ++ 255 ∷ []
-    → RanStopped l repo_calls root_calls root mid repo far → root' ≡ mid → repo' ≡ far → IsMissed e statuses statuses' root root' repo repo'
+    → (status : ℕ) × (out : List ℕ) × RanStopped l repo_calls root_calls status out root mid repo far → root' ≡ mid → repo' ≡ far → IsMissed e statuses statuses' root root' repo repo'
 stopped_missed e l repo_calls root_calls pick statuses statuses' root mid root' repo far repo' is gained ran same same_far =
     subst (λ (x : Event). IsMissed x statuses statuses' root root' repo repo') (sym is) (record {
-      ends = stopped ∷ [];
+      ends = stopped (state root).reads ran.0 ran.1 ∷ [];
       gained = gained;
-      makes = inl (refl, refl, subst (λ (d : MemoryTree). RanStopped l repo_calls root_calls root d repo repo') (sym same) (subst (λ (d : MemoryTree). RanStopped l repo_calls root_calls root mid repo d) (sym same_far) ran));
+      makes = inl (refl, (refl, subst (λ (d : MemoryTree). RanStopped l repo_calls root_calls ran.0 ran.1 root d repo repo') (sym same) (subst (λ (d : MemoryTree). RanStopped l repo_calls root_calls ran.0 ran.1 root mid repo d) (sym same_far) ran.2)));
     })
 
 pub edit_made : (e : Event) (path : Name) (node : Option Node) (statuses : List ℕ) (root root' repo : MemoryTree) → e ≡ event.Edit path node → MeetsEdit (edit_of path node) root root' → IsMade e statuses statuses root root' repo repo

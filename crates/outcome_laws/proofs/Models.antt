@@ -8,7 +8,6 @@ use Rattle.conary_cli.specs.cli-call.cny-base.declared.refusal.Refusal.{Refusal}
 use Rattle.conary_cli.specs.cli-call.cny-base.declared.refusal.Refusal.TheVariants as refusal
 use Rattle.conary_cli.specs.cli-call.tree-disk.Tree.{Tree}
 use Rattle.conary_cli.specs.cli-call.trove-stream.declared.parts.TroveParts.{TroveParts}
-use Rattle.trove_spec.specs.AndThen.{AndThen}
 use Rattle.trove_spec.specs.Config.{cleaned, has_key}
 use Rattle.trove_spec.specs.Meant.{Expands}
 use Rattle.trove_spec.specs.declared.config.Config.{Config}

@@ -1,6 +1,5 @@
 -- What `sync` leads to, and that it changes nothing from then on.
 use Rattle.std.proofs.Common.{◌≡◌, inl, inr, ℕ, false, List, [], Option, Result, Ok, Err, sym, ◌∙◌, subst}
-use Rattle.std.specs.FinMap.{get}
 use Rattle.conary_cli.specs.cli-call.cny-base.declared.node.Node.{Node}
 use Rattle.conary_cli.specs.cli-call.cny-base.declared.options.Options.{Options}
 use Rattle.conary_cli.specs.cli-call.cny-base.declared.refusal.Refusal.{Refusal}
@@ -16,9 +15,9 @@ use Rattle.cny_report.specs.Troves.{nothing_changes}
 use Rattle.repo_load.specs.State.{troves_of, Commit}
 use Rattle.trove_spec.specs.AndThen.{AndThen, Finds}
 use Rattle.trove_spec.specs.declared.config.Config.{Config}
-use Rattle.trove_spec.specs.RootConfig.{config_path, within_limit, HasConfig, HasConfigIn}
+use Rattle.trove_spec.specs.RootConfig.{within_limit, HasConfig, HasConfigIn}
 use Rattle.conary_cli.specs.root-commands.sys-model.declared.model.Model.{Model}
-use Rattle.conary_cli.specs.root-commands.sys-model.RootModel.{model_path, HasModel, HasModelIn}
+use Rattle.conary_cli.specs.root-commands.sys-model.RootModel.{HasModel, HasModelIn}
 use Rattle.conary_cli.specs.root-commands.sys-model.Wanted.{Wants}
 use Rattle.conary_cli.proofs.root-commands.sys-model.ModelSizes.{file_of}
 use Rattle.conary_cli.specs.root-commands.Syncing.{sync, AdoptsList, AdoptsWanted, Syncs, SyncsWith}

@@ -4,7 +4,7 @@
 -- `rollback r.9`, which is refused. After status 1 with that text the machine's answer has this status and this text, and the one line
 -- that is done counts. After status 5 with no text the root's disk failed in the first line: none counts, or the first. After status 5
 -- with the text it failed behind that line, and since the second line isn't done in any state that the first leads to, one counts.
-use Rattle.std.specs.Prelude.{◌≡◌, ◌⊎◌, ℕ, ◌≤◌, true, zero, suc, List, [], ◌∷◌, ◌++◌, Result, Ok, Err}
+use Rattle.std.specs.Prelude.{◌≡◌, ◌⊎◌, ℕ, ◌≤◌, true, zero, suc, List, [], ◌∷◌, ◌++◌, Ok, Err}
 use Rattle.conary_cli.specs.cli-call.cny-base.Reserved.{private_directory}
 use Rattle.conary_cli.specs.cli-call.cny-base.declared.refusal.Refusal.{Refusal}
 use Rattle.conary_cli.specs.cli-call.system-core.FixedDirs.{fixed_dirs}

@@ -16,25 +16,25 @@ use Rattle.outcome_laws.specs.declared.playing.Event.TheVariants as event
 
 -- ---- how an event ended
 
--- A call came to a root that read this tree, answered a status, and wrote these bytes on its output; a crash fell into it; or an edit
--- came to a root that read this tree.
+-- A call came to a root that read this tree, answered a status, and wrote these bytes on its output; a crash fell into such a call, whose
+-- disks had failed from some moment on, which answered so, and whose answer nobody read; or an edit came to a root that read this tree.
 pub data EventEnd : Type 0 where
   answered : Tree → ℕ → List ℕ → EventEnd
-  stopped : EventEnd
+  stopped : Tree → ℕ → List ℕ → EventEnd
   met : Tree → EventEnd
 
 -- the statuses of the calls among the events, in order: 255 of one into which a crash fell
 abbrev pub statuses_of : List EventEnd → List ℕ
 statuses_of [] = []
 statuses_of (answered tree status out ∷ ends) = status ∷ statuses_of ends
-statuses_of (stopped ∷ ends) = 255 ∷ statuses_of ends
+statuses_of (stopped tree status out ∷ ends) = 255 ∷ statuses_of ends
 statuses_of (met tree ∷ ends) = statuses_of ends
 
 -- what was written by the calls that answered, call by call
 abbrev pub outputs_of : List EventEnd → List (List ℕ)
 outputs_of [] = []
 outputs_of (answered tree status out ∷ ends) = out ∷ outputs_of ends
-outputs_of (stopped ∷ ends) = outputs_of ends
+outputs_of (stopped tree status out ∷ ends) = outputs_of ends
 outputs_of (met tree ∷ ends) = outputs_of ends
 
 -- ---- a call
@@ -60,14 +60,12 @@ pub record WillStop (further : ℕ) (old new : MemoryTree) : Type 0 where
   pub fails : fails_of new ≡ fails_of old
   pub faults : faults_of new ≡ faults_of old
 
--- It was called on disks of which each was to stop after so many calls.
-pub record RanStopped (l : Line) (repo_calls root_calls : ℕ) (root root' repo repo' : MemoryTree) : Type 0 where
+-- It was called on disks of which each was to stop after so many calls, answered this status, and wrote these bytes.
+pub record RanStopped (l : Line) (repo_calls root_calls status : ℕ) (out : List ℕ) (root root' repo repo' : MemoryTree) : Type 0 where
   pub begun : MemoryTree
   pub far : MemoryTree
   pub root_stop : WillStop root_calls root begun
   pub repo_stop : WillStop repo_calls repo far
-  pub status : ℕ
-  pub out : List ℕ
   pub was_made : WasMade l status out begun root' far repo'
 
 -- A disk is what a crash leaves of another by this number: all synced, with no stop and no call that fails.
@@ -95,19 +93,20 @@ MeetsEdit e root root' = (IsEdit (state root).reads e × IsEdited (edited_tree (
 -- It was made, and ended so.
 abbrev pub Makes : Event → EventEnd → MemoryTree → MemoryTree → MemoryTree → MemoryTree → Type 0
 Makes (event.Call l) (answered tree status out) root root' repo repo' = (tree ≡ (state root).reads) × WasMade l status out root root' repo repo'
-Makes (event.Call l) stopped root root' repo repo' = ⊥
+Makes (event.Call l) (stopped tree status out) root root' repo repo' = ⊥
 Makes (event.Call l) (met tree) root root' repo repo' = ⊥
 Makes (event.Stopped l repo_calls root_calls pick) (answered tree status out) root root' repo repo' = ⊥
-Makes (event.Stopped l repo_calls root_calls pick) stopped root root' repo repo' = (mid : MemoryTree) × (far : MemoryTree) × RanStopped l repo_calls root_calls root mid repo far × AreLeft pick mid root' far repo'
+Makes (event.Stopped l repo_calls root_calls pick) (stopped tree status out) root root' repo repo' =
+    (tree ≡ (state root).reads) × (mid : MemoryTree) × (far : MemoryTree) × RanStopped l repo_calls root_calls status out root mid repo far × AreLeft pick mid root' far repo'
 Makes (event.Stopped l repo_calls root_calls pick) (met tree) root root' repo repo' = ⊥
 Makes (event.Edit path _) (answered tree status out) root root' repo repo' = ⊥
-Makes (event.Edit path _) stopped root root' repo repo' = ⊥
+Makes (event.Edit path _) (stopped tree status out) root root' repo repo' = ⊥
 Makes (event.Edit path node) (met tree) root root' repo repo' = (tree ≡ (state root).reads) × MeetsEdit (edit_of path node) root root' × (repo' ≡ repo)
 
 -- It is a stopped call of which the images found no memory: it was made, and its disks stay stopped.
-abbrev pub StaysStopped : Event → MemoryTree → MemoryTree → MemoryTree → MemoryTree → Type 0
-StaysStopped (event.Stopped l repo_calls root_calls pick) root root' repo repo' = RanStopped l repo_calls root_calls root root' repo repo'
-StaysStopped _ root root' repo repo' = ⊥
+abbrev pub StaysStopped : Event → EventEnd → MemoryTree → MemoryTree → MemoryTree → MemoryTree → Type 0
+StaysStopped (event.Stopped l repo_calls root_calls pick) (stopped tree status out) root root' repo repo' = (tree ≡ (state root).reads) × RanStopped l repo_calls root_calls status out root root' repo repo'
+StaysStopped _ _ root root' repo repo' = ⊥
 
 -- ---- the events
 
@@ -123,7 +122,7 @@ MakesAll (e ∷ events) (end ∷ ends) root root' repo repo' = (mid : MemoryTree
 abbrev pub MakesSome : List Event → List EventEnd → MemoryTree → MemoryTree → MemoryTree → MemoryTree → Type 0
 MakesSome [] ends root root' repo repo' = ⊥
 MakesSome (e ∷ events) [] root root' repo repo' = IsSame root root' × (repo' ≡ repo)
-MakesSome (e ∷ events) (end ∷ ends) root root' repo repo' = ((end ≡ stopped) × (ends ≡ []) × StaysStopped e root root' repo repo')
+MakesSome (e ∷ events) (end ∷ ends) root root' repo repo' = ((ends ≡ []) × StaysStopped e end root root' repo repo')
     ⊎ ((mid : MemoryTree) × (far : MemoryTree) × Makes e end root mid repo far × MakesSome events ends mid root' far repo')
 
 -- by how `play` ended

@@ -110,7 +110,7 @@ fn run_stopped(
     root: &mut MemoryTree,
 )
     requires { input ≡ line.now.input }
-    ensures { RanStopped line.now repo_calls root_calls root.old root.new repo.old repo.new }
+    ensures { (status : ℕ) × (out : List ℕ) × RanStopped line.now repo_calls root_calls status out root.old root.new repo.old repo.new }
 {
     repo.stop_after(repo_calls);
     root.stop_after(root_calls);
@@ -213,8 +213,9 @@ fn make_all(
 /// Makes the events in order, and appends a status for each call.
 ///
 /// The headline is its clause: from two disks of which whatever a crash leaves recovers to one state, every list of calls, edits and crashes
-/// leads to disks that recover, also after a crash, to the state after the events that were made, of whose calls those lines count that
-/// the statuses tell, and what was written.
+/// leads to disks that recover, also after a crash, to the fold of the events that were made, of whose calls those lines count that the
+/// statuses tell, and what was written. Where an edit came before a recovery and lets the log be put no more, each call is refused until
+/// another edit makes room.
 pub fn play(
     alloc: Global,
     events: &[Event],

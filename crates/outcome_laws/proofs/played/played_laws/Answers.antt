@@ -1,4 +1,5 @@
-use Rattle.outcome_laws.proofs.FixedCuts.{call_synced, crash_synced, cuts_fixed}
+use Rattle.outcome_laws.proofs.BlockedLogs.{blocked_call}
+use Rattle.outcome_laws.proofs.FixedCuts.{call_synced, crash_synced, cuts_fixed, cuts_opened}
 use Rattle.outcome_laws.proofs.ToldFolds.{told_folds, uncut_answered}
 use Rattle.outcome_laws.proofs.played.played_laws.Goals as goal
 
@@ -16,3 +17,9 @@ returns-clause-synced c = call_synced
 
 pub returns-clause-crashed : goal.returns-clause-crashed
 returns-clause-crashed c = crash_synced
+
+pub returns-clause-opened : goal.returns-clause-opened
+returns-clause-opened c = cuts_opened c.store_laws.ensures
+
+pub returns-clause-blocked : goal.returns-clause-blocked
+returns-clause-blocked c = blocked_call
