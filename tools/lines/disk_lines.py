@@ -1,14 +1,16 @@
 #!/usr/bin/env python3
 """The lines of the program disk_lines, and what each has to answer. The cases are in `cases/disks.py` (a disk in memory and a content store over it),
-`cases/logs.py` (write sets and their logs), `cases/journals.py` (the journal) and `cases/packs.py` (manifests of trees); the models that answer them
-are `model/trees.py`, `model/runs.py` and `model/packs.py`. Here is how a line is written."""
+`cases/logs.py` (write sets and their logs), `cases/journals.py` (the journal), `cases/packs.py` (manifests of trees) and `cases/pieces.py`
+(requests that come in pieces); the models that answer them are `model/trees.py`, `model/runs.py`, `model/packs.py` and `model/mirrors.py`.
+Here is how a line is written."""
 import itertools
 
-from tools.cases import disks, journals, logs, packs
+from tools.cases import disks, journals, logs, packs, pieces
 from tools.lines.words import (
     answered, digits, items, line, node_term, node_word, placed, puts_term, say, shown, standing, term, terms, tree_term, yes_or_no,
 )  # fmt: skip
 from tools.model import runs
+from tools.model.mirrors import in_pieces
 from tools.model.packs import packed
 from tools.model.streams import is_path, rises, sha
 from tools.model.trees import Collision, Disk, Failed, Journal, NotAllowed, Tree, clear, is_of, is_tree, joined, read_whole
@@ -220,6 +222,7 @@ CALLS = {
     "crash_in": ([tree_term, puts_term, str, str], crash_text),
     "images": ([tree_term, puts_term, str, str], lambda *given: line(*runs.images_found(*given).values())),
     "pack": ([*3 * [bytes.decode], texts_word, deps_word, deps_word, lambda skip: "skip" * skip, str, str, tree_term], pack_text),
+    "serve": ([tree_term, str, term], lambda nodes, size, stream: line(*in_pieces(Tree(nodes), size, stream))),
     "cuts": ([tree_term, puts_term, str, items], lambda *given: line(*journals.checked_cuts(*given))),
 }
 
@@ -228,7 +231,7 @@ def lines():
     steps = Steps()
     disks.cases(steps)
     yield from steps.lines
-    for call, *given in itertools.chain(logs.cases(), *(cases() for cases in journals.CASES), packs.cases()):
+    for call, *given in itertools.chain(logs.cases(), *(cases() for cases in journals.CASES), packs.cases(), pieces.cases()):
         written, answer = CALLS[call]
         yield line(call, *(write(one) for write, one in zip(written, given, strict=True))), lambda: answer(*given)
 

@@ -7,6 +7,7 @@ from tools.model.streams import (
     trove_bytes,
 )  # fmt: skip
 from tools.model.texts import id_bytes, rises, take_id
+from tools.model.trees import Damaged
 
 REQUESTS, REPLIES = b"CNYRQ01\n", b"CNYRP01\n"
 NAMED, CONTENT, MISSING, LAST_REQUEST = 0x70, 0x71, 0x72, 0x7F
@@ -160,3 +161,45 @@ def take(text):
     _, _, at = item_at(text, at, {LAST_REPLY: read_nothing})
     check_end(text, at)
     return change
+
+
+# ---- requests that come in pieces
+
+def refused_after(tree, catalogue, text):
+    """After how many bytes of a stream that is refused, or at which a content is damaged, no further bytes can change that; none where only
+    the end of the stream tells."""
+    if len(text) < len(REQUESTS) or not text.startswith(REQUESTS):
+        return len(REQUESTS) if len(text) >= len(REQUESTS) else None
+    at, size = len(REQUESTS), len(REPLIES) + 5
+    for count in range(MOST_REQUESTS + 1):
+        readers = READERS if count < MOST_REQUESTS else {LAST_REQUEST: read_nothing}
+        if text[at : at + 1] and text[at] not in readers:
+            return at + 1
+        try:
+            tag, start, end = next_item(text, at, readers)
+        except FaultAt:
+            return None
+        try:
+            value = readers[tag](text[start:end])
+            size += len(reply(tree, catalogue, tag, value)) if tag != LAST_REQUEST else 0
+        except (NotOfForm, Refused, Damaged):
+            return end
+        if size > LONGEST:
+            return end
+        if tag == LAST_REQUEST:
+            return end + 1 if end < len(text) else None
+        at = end
+
+
+def in_pieces(tree, size, text):
+    """What a session answers that is given a stream in pieces of so many bytes: the replies; or why there are none, after how many bytes
+    that came, what two further calls are answered, and how it ends then."""
+    catalogue = repository.load(tree)
+    try:
+        return [replies(tree, catalogue, text).hex()]
+    except Refused as refused:
+        why = again = end = str(refused)
+    except Damaged as damaged:
+        why, again, end = f"damaged {damaged.args[0].decode()}", "memory", "memory"
+    after = refused_after(tree, catalogue, text)
+    return [why] if after is None else [why, str(min(len(text), -(-after // size) * size)), again, again, end]

@@ -1,5 +1,5 @@
-//! Answers calls on a disk in memory, on a content store over it, on write sets and their logs, on the journal, and makes manifests of
-//! trees. A line of standard input is the name of a call and its arguments, a tab before each; the line of standard output with its number
+//! Answers calls on a disk in memory, on a content store over it, on write sets and their logs, on the journal, makes manifests of
+//! trees, and answers requests to a repository that come in pieces. A line of standard input is the name of a call and its arguments, a tab before each; the line of standard output with its number
 //! is what the call answers. Input and wanted output come from tools/lines/disk_lines.py, which is made from the rules of docs/ alone.
 //!
 //! The calls of a disk and of the content store are steps of a script: each goes on where the one before left the disk. All others stand
@@ -16,6 +16,7 @@ mod pack;
 mod puts;
 mod runs;
 mod script;
+mod serving;
 mod steps;
 mod store;
 mod traced;
@@ -50,6 +51,7 @@ fn call(disk: &mut Quiet, line: &mut Line, answer: &mut Answer) {
         "images" => cuts::images(line, answer),
         "cuts" => cuts::cuts(line, answer),
         "pack" => pack::pack(line, answer),
+        "serve" => serving::serve(line, answer),
         _ => script::call(disk, line, answer),
     }
 }

@@ -1,5 +1,6 @@
 pub mod ListingEnds
 pub mod MirrorEnds
+mod Mirrored
 pub mod CommitEnds
 pub mod CommitOpened
 pub mod MadeVersions

@@ -7,5 +7,6 @@ pub mod Moving
 pub mod Serving
 pub mod AskMirror
 pub mod TakeMirror
+pub mod Mirrored
 pub use Rattle.repo_mirror.specs as repo-mirror
 pub use Rattle.repo_serve.specs as repo-serve

@@ -5,6 +5,7 @@
 
 mod committing;
 mod cooking;
+mod laws;
 mod listing;
 mod mirroring;
 mod moving;
@@ -14,6 +15,7 @@ mod showing;
 
 pub use committing::{commit_input, commit_set};
 pub use cooking::cook_manifest;
+pub use laws::mirrored_by_commands;
 pub use listing::list_committed;
 pub use mirroring::{ask_mirror, take_mirror};
 pub use moving::commit_moved;

@@ -1,5 +1,5 @@
 -- Requests that are answered, one behind the other.
-use Rattle.std.proofs.Common.{◌≡◌, ℕ, ◌≤◌, List, [], ◌∷◌, ◌++◌, length, drop, Ok, refl, sym, ap, ◌∙◌, arith, append_assoc, append-nil, length-append, length-drop}
+use Rattle.std.proofs.Common.{◌≡◌, ℕ, ◌+◌, ◌≤◌, List, [], ◌∷◌, ◌++◌, length, drop, Ok, refl, sym, ap, ◌∙◌, subst, arith, append_assoc, append-nil, length-append, length-drop}
 use Rattle.std.specs.Prelude.{flat_map}
 use Rattle.std.proofs.lemmas.Grind.{flat_map-append}
 use Rattle.std.proofs.lemmas.List.Elements.{All-push}
@@ -8,9 +8,10 @@ use Rattle.repo_load.specs.trove-stream.declared.parts.TroveParts.{TroveParts}
 use Rattle.repo_load.specs.tree-disk.Tree.{Name, Tree}
 use Rattle.repo_mirror.specs.Requests.{request_bytes, FitsRequest, IsRequest}
 use Rattle.repo_mirror.specs.declared.request.Request.{Request}
-use Rattle.repo_load.specs.State.{RepositoryState}
+use Rattle.repo_load.specs.State.{Commit, RepositoryState}
 use Rattle.repo_serve.specs.Reply.{IsReplyTo}
 use Rattle.repo_serve.specs.Replies.{AreReplies}
+use Rattle.repo_serve.specs.Serving.{IsRecordedLength, IsRecordedSum}
 use Rattle.repo_serve.specs.Steps.{Advances, Decides, HasAnswered, IsDamagedBehind, IsDamagedNext, IsDecided, IsWithin}
 use Rattle.repo_serve.specs.declared.answering.Answered.{Answered}
 
@@ -23,6 +24,13 @@ pub one_reply_more : (r : RepositoryState) (requests : List Request) (request : 
 one_reply_more r [] request replies reply are is = (reply, [], is, refl, ap (λ (l : List ℕ). l ++ reply) are ∙ sym (append-nil reply))
 one_reply_more r (q ∷ requests) request replies reply are is =
     (are.0, are.1 ++ reply, are.2, one_reply_more r requests request are.1 reply are.3 is, ap (λ (l : List ℕ). l ++ reply) are.4 ∙ append_assoc are.0 are.1 reply)
+
+-- what records tell of one more
+one_length_more : (commits : List Commit) (requests : List Request) (request : Request) (sum len : ℕ) → IsRecordedSum commits requests sum → IsRecordedLength commits request len
+    → IsRecordedSum commits (requests ++ request ∷ []) (sum + len)
+one_length_more commits [] request sum len are is = (len, 0, is, refl, omega (arith, are))
+one_length_more commits (q ∷ requests) request sum len are is =
+    (are.0, are.1 + len, are.2, one_length_more commits requests request are.1 len are.3 is, omega (arith, are.4))
 
 -- one item more
 pub one_item_more : (requests : List Request) (request : Request) → items_of (requests ++ request ∷ []) ≡ items_of requests ++ request_bytes request
@@ -37,6 +45,7 @@ module _ (tree : Tree) (from : Answered) (bytes : List ℕ) where
     requests_are = λ k d low. absurd (omega arith);
     fits = λ k d low. absurd (omega arith);
     replies_are = λ r stores. refl;
+    recorded = λ commits holds. refl;
     number = omega arith;
     at = omega arith;
     sent = omega arith;
@@ -64,7 +73,9 @@ module _ (tree : Tree) (from : Answered) (bytes : List ℕ) where
               ∙ ap (λ (l : List ℕ). l ++ drop end rest) (sym more);
           requests_are = All-push IsRequest so_far.requests q so_far.requests_are it.next.valid;
           fits = All-push FitsRequest so_far.requests q so_far.fits it.next.fits;
-          replies_are = λ r stores. one_reply_more r so_far.requests q replies it.reply (so_far.replies_are r stores) (it.reply_is r stores);
+          replies_are = λ r stores. one_reply_more r so_far.requests q replies it.reply (so_far.replies_are r stores) (it.reply_is.states r stores);
+          recorded = λ commits holds. subst (λ (n : ℕ). IsRecordedSum commits (so_far.requests ++ q ∷ []) n) (sym size)
+              (one_length_more commits so_far.requests q (length replies) (length it.reply) (so_far.recorded commits holds) (it.reply_is.recorded commits holds));
           number = omega (arith, so_far.number, it.moved.number, count);
           at = omega (arith, so_far.at, it.moved.at, behind, sum, ends);
           sent = omega (arith, so_far.sent, it.moved.sent, size);
@@ -75,9 +86,12 @@ module _ (tree : Tree) (from : Answered) (bytes : List ℕ) where
     decided within refusal decides = record { to = mid; rest = rest; replies = replies; advances = so_far; within = within; decides = decides }
 
     -- a content of the next one is damaged
-    pub damaged : (troves : List TroveParts) (path : Name) → IsDamagedNext troves mid.number rest tree path → IsDamagedBehind troves from.number bytes tree path
-    damaged troves path bad = record {
+    pub damaged : IsWithin mid → (troves : List TroveParts) (path : Name) → IsDamagedNext troves mid.number rest tree path → IsDamagedBehind troves from bytes tree path
+    damaged within troves path bad = record {
       requests = so_far.requests;
+      sum = length replies;
+      recorded = so_far.recorded;
+      room = omega (arith, so_far.sent, within.room);
       request = bad.request;
       more = drop bad.to rest;
       few = omega (arith, so_far.number, bad.next.few);

@@ -8,3 +8,6 @@ mod Progress
 mod WholeStreams
 mod OneReply
 mod OneAnswer
+mod Partly
+mod Piecewise
+mod Halted

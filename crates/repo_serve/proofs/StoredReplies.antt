@@ -1,6 +1,7 @@
 -- The replies to requests, of the states that a tree stores.
-use Rattle.std.proofs.Common.{◌≡◌, inl, inr, ⊎_elim, ℕ, ◌+◌, Bool, true, false, cond, IsTrue, List, [], ◌∷◌, length, map, All, Contains, Option, Some, refl, sym, ap, ◌∙◌, subst}
+use Rattle.std.proofs.Common.{◌≡◌, inl, inr, ⊎_elim, ℕ, ◌+◌, Bool, true, false, cond, IsTrue, List, [], ◌∷◌, ◌++◌, length, map, All, Contains, Option, Some, None, refl, sym, ap, ◌∙◌, subst, arith, length-append}
 use Rattle.std.specs.Prelude.{filter, not}
+use Rattle.std.specs.Int.{w32, to_be_bytes}
 use Rattle.repo_load.specs.cny-base.declared.refusal.Fault.{Fault}
 use Rattle.repo_load.specs.cny-base.declared.refusal.Fault.TheVariants as fault
 use Rattle.repo_load.specs.cny-base.declared.refusal.Refusal.{Refusal}
@@ -28,7 +29,7 @@ use Rattle.repo_load.proofs.cny-base.Lists.{contains_cases, nothing_in}
 use Rattle.repo_load.proofs.cny-base.Recorded.{any_of}
 use Rattle.repo_serve.specs.Reply.{content_reply, ids_named, ids_reply, IsReplyLength}
 use Rattle.repo_serve.specs.Room.{IsLongOrMemory}
-use Rattle.repo_serve.specs.Serving.{IsDamagedFor}
+use Rattle.repo_serve.specs.Serving.{IsDamagedFor, IsRecordedLength}
 use Rattle.repo_serve.specs.Steps.{IsReplyOf, IsSetOf, IsUnansweredOf}
 
 -- the laws that are called upon
@@ -50,26 +51,61 @@ long_refused request sent tree len is (fault.Refused own) long refusal same r st
     inr (record { len = len; len_is = is r stores; long = long.long; refused = sym one ∙ long.refused })
 long_refused request sent tree len is fault.Memory long refusal same r stores = absurd (cc same)
 
+abbrev pub OneCommits : Type 0
+OneCommits = (x : Tree) (one other : List Commit) → HoldsCommits x one → HoldsCommits x other → one ≡ other
+
+-- the troves of the commits that the files hold
+recorded_troves : OneCommits → (tree : Tree) (c : CatalogueParts) → HoldsCatalogue tree c → (commits : List Commit) → HoldsCommits tree commits → c.troves ≡ troves_of commits
+recorded_troves one tree c holds commits there = ap (λ (d : CatalogueParts). d.troves) holds.is ∙ ap troves_of (one tree holds.commits commits holds.holds there)
+
+abbrev found_bytes : Option (List ℕ) → List ℕ
+found_bytes None = []
+found_bytes (Some bytes) = bytes
+
+content_long : (name : List ℕ) (found : Option (List ℕ)) → length name ≡ 20 → length (content_reply name found) ≡ 25 + length (found_bytes found)
+content_long name None twenty = omega (arith, twenty, length-append (0x82 ∷ to_be_bytes w32 (length name)) name)
+content_long name (Some bytes) twenty = omega (arith, twenty, length-append name bytes, length-append (0x81 ∷ to_be_bytes w32 (length (name ++ bytes))) (name ++ bytes))
+
+recorded_found : (commits : List Commit) (tree : Tree) (name : List ℕ) (found : Option (List ℕ)) → FindsContent (troves_of commits) name tree found → (len : ℕ) → len ≡ 25 + length (found_bytes found)
+    → IsRecordedLength commits (Content name) len
+recorded_found commits tree name None finds len long = inl (finds, long)
+recorded_found commits tree name (Some bytes) finds len long = inr (length bytes, finds.1.recorded, long)
+
 module _ (catalogue_is : CatalogueIs) (tree : Tree) (c : CatalogueParts) (holds : HoldsCatalogue tree c) where
   pub troves_are : (r : RepositoryState) → StoresRepository tree r → c.troves ≡ troves_of r.commits
   troves_are r stores = ap (λ (d : CatalogueParts). d.troves) (catalogue_is tree r c stores holds)
 
   -- ---- ids
 
-  pub named_reply : (name reply : List ℕ) → reply ≡ ids_reply (ids_named name c.troves) → IsReplyOf (Named name) tree reply
-  named_reply name reply is r stores = is ∙ ap (λ (l : List TroveParts). ids_reply (ids_named name l)) (troves_are r stores)
+  pub named_reply : OneCommits → (name reply : List ℕ) → reply ≡ ids_reply (ids_named name c.troves) → IsReplyOf (Named name) tree reply
+  named_reply one name reply is = record {
+    states = λ r stores. is ∙ ap (λ (l : List TroveParts). ids_reply (ids_named name l)) (troves_are r stores);
+    recorded = λ commits there. ap (λ (l : List ℕ). length l) is ∙ ap (λ (l : List TroveParts). length (ids_reply (ids_named name l))) (recorded_troves one tree c holds commits there);
+  }
 
   pub named_length : (name : List ℕ) (r : RepositoryState) → StoresRepository tree r → IsReplyLength r (Named name) (length (ids_reply (ids_named name c.troves)))
   named_length name r stores = ap (λ (l : List TroveParts). length (ids_reply (ids_named name l))) (troves_are r stores)
 
   -- ---- contents
 
+  -- the length of the reply, as a record tells it
+  pub recorded_length : (name : List ℕ) → length name ≡ 20 → (size : ℕ) → IsTrue (records_content name size c.troves) → (len : ℕ) → len ≡ 25 + size → (r : RepositoryState) → StoresRepository tree r → IsReplyLength r (Content name) len
+  recorded_length name twenty size recorded len long r stores =
+      let own = subst (λ (l : List TroveParts). IsTrue (records_content name size l)) (troves_are r stores) recorded in
+      let held = stores.repository.there name size own in
+      omega (arith, long, held.2, content_long name (Some held.0) twenty, ap (λ (o : Option (List ℕ)). length (content_reply name o)) held.1)
+
   module _ (content_is : ContentIs) (name : List ℕ) (found : Option (List ℕ)) (finds : FindsContent c.troves name tree found) where
     found_is : (r : RepositoryState) → StoresRepository tree r → found ≡ r.contents name
     found_is r stores = content_is tree r name found stores (subst (λ (l : List TroveParts). FindsContent l name tree found) (troves_are r stores) finds)
 
-    pub found_reply : (reply : List ℕ) → reply ≡ content_reply name found → IsReplyOf (Content name) tree reply
-    found_reply reply is r stores = is ∙ ap (content_reply name) (found_is r stores)
+    pub found_reply : OneCommits → length name ≡ 20 → (reply : List ℕ) → reply ≡ content_reply name found → IsReplyOf (Content name) tree reply
+    found_reply one twenty reply is = record {
+      states = λ r stores. is ∙ ap (content_reply name) (found_is r stores);
+      recorded = λ commits there. recorded_found commits tree name found
+          (subst (λ (l : List TroveParts). FindsContent l name tree found) (recorded_troves one tree c holds commits there) finds) (length reply)
+          (ap (λ (l : List ℕ). length l) is ∙ content_long name found twenty);
+    }
 
     pub found_length : (len : ℕ) → len ≡ length (content_reply name found) → (r : RepositoryState) → StoresRepository tree r → IsReplyLength r (Content name) len
     found_length len is r stores = is ∙ ap (λ (o : Option (List ℕ)). length (content_reply name o)) (found_is r stores)
@@ -78,6 +114,12 @@ module _ (catalogue_is : CatalogueIs) (tree : Tree) (c : CatalogueParts) (holds 
 
   module _ (counts : List ℕ) (told : (commits : List Commit) → commits_of (troves_of commits) (map (λ (troves : Commit). length troves) commits) ≡ commits)
       (one_commits : (x : Tree) (one other : List Commit) → HoldsCommits x one → HoldsCommits x other → one ≡ other) (counted : HoldsCounts tree counts) where
+    commits_there : (commits : List Commit) → HoldsCommits tree commits → commits_of c.troves counts ≡ commits
+    commits_there commits there =
+        let same : counted.commits ≡ commits = one_commits tree counted.commits commits counted.holds there in
+        ap (λ (l : List TroveParts). commits_of l counts) (recorded_troves one_commits tree c holds commits there)
+        ∙ ap (commits_of (troves_of commits)) (counted.counts_are ∙ ap (map (λ (troves : Commit). length troves)) same) ∙ told commits
+
     pub commits_are : (r : RepositoryState) → StoresRepository tree r → commits_of c.troves counts ≡ r.commits
     commits_are r stores =
         let same : counted.commits ≡ r.commits = one_commits tree counted.commits r.commits counted.holds stores.commits in
@@ -103,14 +145,17 @@ module _ (catalogue_is : CatalogueIs) (tree : Tree) (c : CatalogueParts) (holds 
           committed_of : (r : RepositoryState) → StoresRepository tree r → AreCommitted (troves_of r.commits) troves
           committed_of r stores = subst (λ (l : List TroveParts). AreCommitted l troves) (troves_are r stores) committed
 
-          pub missing_reply : (reply : List ℕ) → IsSetOf troves tree reply → IsReplyOf (Missing ids) tree reply
-          missing_reply reply is r stores = record {
-            troves = troves;
-            set = is.set;
-            missing = missing_of_state r stores;
-            sent = is.sent;
-            held = held tree r [] troves is.set stores (committed_of r stores) is.leads is.stored;
-            is = is.is;
+          pub missing_reply : (reply : List ℕ) → length reply ≡ 5 + set_length troves → IsSetOf troves tree reply → IsReplyOf (Missing ids) tree reply
+          missing_reply reply long is = record {
+            states = λ r stores. record {
+              troves = troves;
+              set = is.set;
+              missing = missing_of_state r stores;
+              sent = is.sent;
+              held = held tree r [] troves is.set stores (committed_of r stores) is.leads is.stored;
+              is = is.is;
+            };
+            recorded = λ commits there. (troves, subst (λ (l : List Commit). AreMissing ids l troves) (commits_there commits there) missing, long);
           }
 
 -- ---- damage

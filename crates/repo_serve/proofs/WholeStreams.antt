@@ -60,7 +60,7 @@ module _ (stream : List ℕ) (at number : ℕ) (rest : List ℕ) (here : drop at
   }))
 
   -- where no item is whole, the fault lies where the bytes end
-  cut_here : IsCut number rest → IsFaultAt number stream at (length stream)
+  pub cut_here : IsCut number rest → IsFaultAt number stream at (length stream)
   cut_here cut =
       let first : begins_unexpected (request_tags number) (drop at stream) ≡ false = ap (begins_unexpected (request_tags number)) here ∙ cut.expected in
       inl (inl (record {
@@ -170,13 +170,14 @@ module _ (tree : Tree) (from : Answered) (stream items : List ℕ) (begins_so : 
   refused refusal d r stores = inr (stopped d.to d.rest d.replies d.advances d.within r stores refusal d.decides)
 
   -- a damaged content
-  pub damaged : (troves : List TroveParts) (path : Name) → IsDamagedBehind troves from.number items tree path → IsDamagedReply troves stream tree path
+  pub damaged : (troves : List TroveParts) (path : Name) → IsDamagedBehind troves from items tree path → IsDamagedReply troves stream tree path
   damaged troves path bad = record {
     requests = bad.requests;
     front = request_magic ++ items_of bad.requests;
     request = bad.request;
     more = bad.more;
     requests_are = record { few = omega (arith, bad.few, number_is); requests_are = bad.requests_are; fits = bad.fits; text = refl };
+    allowed = λ commits holds. (bad.sum, bad.recorded commits holds, omega (arith, bad.room, sent_is));
     valid = bad.valid;
     split = begins_so ∙ ap (λ (l : List ℕ). request_magic ++ l) bad.split;
     damaged = bad.damaged;

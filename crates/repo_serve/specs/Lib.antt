@@ -4,3 +4,5 @@ pub mod Answers
 pub mod Serving
 pub mod Room
 pub mod Steps
+pub mod Halts
+pub mod Sessions

@@ -14,20 +14,21 @@ use Rattle.repo_mirror.specs.change-set.ChangeSet.{change_bytes}
 use Rattle.repo_mirror.specs.change-set.declared.change.ChangeSet.{ChangeSet}
 use Rattle.repo_mirror.specs.declared.request.Request.{Request}
 use Rattle.repo_mirror.specs.declared.request.TheConstants.{REQUESTS_LIMIT}
-use Rattle.repo_load.specs.Files.{StoresRepository}
-use Rattle.repo_load.specs.State.{RepositoryState}
+use Rattle.repo_load.specs.Files.{HoldsCommits, StoresRepository}
+use Rattle.repo_load.specs.State.{Commit, RepositoryState}
 use Rattle.repository.specs.Between.{HasStored, LeadsBetween}
 use Rattle.repo_mirror.specs.Absolute.{IsAbsoluteSet}
 use Rattle.repo_serve.specs.Reply.{IsReplyTo}
 use Rattle.repo_serve.specs.Replies.{AreReplies, GoesOn, IsRefusedNext, IsUnanswered}
-use Rattle.repo_serve.specs.Serving.{IsDamagedFor}
+use Rattle.repo_serve.specs.Serving.{IsDamagedFor, IsRecordedLength, IsRecordedSum}
 use Rattle.repo_serve.specs.declared.answering.Answered.{Answered}
 
 -- ---- one reply
 
--- that is the reply of each state that the tree stores
-abbrev pub IsReplyOf : Request → Tree → List ℕ → Type 0
-IsReplyOf request tree reply = (r : RepositoryState) → StoresRepository tree r → IsReplyTo r request (Ok reply)
+-- that is the reply of each state that the tree stores, and as long as the records of its commits tell
+pub record IsReplyOf (request : Request) (tree : Tree) (reply : List ℕ) : Type 0 where
+  pub states : (r : RepositoryState) → StoresRepository tree r → IsReplyTo r request (Ok reply)
+  pub recorded : (commits : List Commit) → HoldsCommits tree commits → IsRecordedLength commits request (length reply)
 
 -- each such state has none, behind replies whose stream with its end has so many bytes
 abbrev pub IsUnansweredOf : Request → ℕ → Tree → Refusal → Type 0
@@ -107,6 +108,7 @@ pub record Advances (tree : Tree) (from to : Answered) (bytes rest replies : Lis
   pub requests_are : All IsRequest requests
   pub fits : All FitsRequest requests
   pub replies_are : (r : RepositoryState) → StoresRepository tree r → AreReplies r requests replies
+  pub recorded : (commits : List Commit) → HoldsCommits tree commits → IsRecordedSum commits requests (length replies)
   pub number : to.number ≡ from.number + length requests
   pub at : to.at ≡ from.at + length (flat_map request_bytes requests)
   pub sent : to.sent ≡ from.sent + length replies
@@ -145,12 +147,15 @@ pub record IsDamagedNext (troves : List TroveParts) (number : ℕ) (bytes : List
   pub next : IsNext number bytes request to
   pub damaged : IsDamagedFor troves request tree path
 
--- behind some requests stands one with which a damaged content is sent
-pub record IsDamagedBehind (troves : List TroveParts) (number : ℕ) (bytes : List ℕ) (tree : Tree) (path : Name) : Type 0 where
+-- behind some requests, none of which is refused, stands one with which a damaged content is sent
+pub record IsDamagedBehind (troves : List TroveParts) (from : Answered) (bytes : List ℕ) (tree : Tree) (path : Name) : Type 0 where
   pub requests : List Request
+  pub sum : ℕ
+  pub recorded : (commits : List Commit) → HoldsCommits tree commits → IsRecordedSum commits requests sum
+  pub room : from.sent + sum ≤ MESSAGE_LIMIT
   pub request : Request
   pub more : List ℕ
-  pub few : number + length requests < REQUESTS_LIMIT
+  pub few : from.number + length requests < REQUESTS_LIMIT
   pub requests_are : All IsRequest requests
   pub fits : All FitsRequest requests
   pub valid : IsRequest request

@@ -110,7 +110,7 @@ pub(crate) fn answer_all<D: TreeDisk>(
     requires holds { IsTrue D.disk.tells → HoldsCatalogue (D.disk.reads disk.old) catalogue.now }
     ensures answers { Answers D.disk (λ tree used. AnswersAll tree answered.old answered.new bytes.now out.old out.new used)
         (λ tree refusal. IsDecided tree answered.old bytes.now refusal)
-        (IsDamagedBehind catalogue.now.troves answered.old.number bytes.now) disk.old disk.new result }
+        (IsDamagedBehind catalogue.now.troves answered.old bytes.now) disk.old disk.new result }
     ensures within { OnOk result (IsWithin answered.new) }
     ensures used { IfOk result (λ used. used ≤ length bytes.now) }
 {

@@ -3,6 +3,7 @@ ghost use Rattle.std.specs.Prelude.{◌≡◌, ◌+◌, ◌++◌, ◌≤◌, IfO
 ghost use Rattle.cny_stream.specs.Item.{item_bytes};
 ghost use Rattle.repo_load.specs.cny-base.declared.limits.TheConstants.{MESSAGE_LIMIT};
 ghost use Rattle.repo_load.specs.Files.{HoldsCatalogue};
+ghost use Rattle.repo_load.specs.Looks.{Looks, no_damage};
 ghost use Rattle.repo_mirror.specs.declared.request.Request.TheVariants.{Content};
 ghost use Rattle.repo_serve.specs.Answers.{Answers};
 ghost use Rattle.repo_serve.specs.Reply.{content_reply};
@@ -13,8 +14,8 @@ use crate::room::{sum_of, with_reply};
 use cny_stream::{close_item, open_item, put_item};
 use repo_index::Catalogue;
 use repo_load::cny_base::{Bytes, OutOfMemory, Stop};
-use repo_load::tree_disk::TreeDisk;
-use repo_load::{content, stored_state};
+use repo_load::tree_disk::{TreeDisk, steps};
+use repo_load::{content, content_path, one_repository, stored_state};
 use std::alloc::Global;
 
 // The tag of a reply with a content.
@@ -68,9 +69,46 @@ fn reply_with(alloc: Global, name: &[u8; 20], found: &Option<Bytes>) -> Result<B
     Ok(out)
 }
 
-/// The reply with the content of a name, behind replies whose stream with its end has so many bytes. `TooLarge` where it would make
-/// that longer than a message may be, and then it isn't made.
-pub(crate) fn content_of<D: TreeDisk>(
+// The size of the file that stands under the name, if one does.
+fn stored_size<D: TreeDisk>(
+    alloc: Global,
+    disk: &mut D,
+    name: &[u8; 20],
+) -> Result<Option<u64>, Stop>
+    ensures { Looks D.disk (λ tree size. Unit {0}) no_damage disk.old disk.new result }
+{
+    let path = content_path(alloc, name)?;
+    let look = steps::look(alloc, disk, &path)?;
+    Ok(look.size())
+}
+
+// `TooLarge` where the reply with the content would be too long, as the size of its file tells, which isn't read. A file whose size
+// isn't recorded tells nothing.
+fn check_room<D: TreeDisk>(
+    alloc: Global,
+    disk: &mut D,
+    catalogue: &Catalogue,
+    name: &[u8; 20],
+    sent: u64,
+) -> Result<(), Stop>
+    requires { IsTrue D.disk.tells → HoldsCatalogue (D.disk.reads disk.old) catalogue.now }
+    ensures { Answers D.disk (λ tree done. Unit {0}) (IsUnansweredOf (Content name.now) sent) no_damage disk.old disk.new result }
+{
+    stored_state();
+    if !catalogue.has_content(name) {
+        return Ok(());
+    }
+    let Some(size) = stored_size(alloc, disk, name)? else {
+        return Ok(());
+    };
+    if catalogue.records_content(name, size as usize) {
+        with_reply(sent, sum_of(HEAD_LEN, size)?)?;
+    }
+    Ok(())
+}
+
+// The reply with the content of a name, as it is read. `TooLarge` where it would make the replies too long, and then it isn't made.
+fn read_content<D: TreeDisk>(
     alloc: Global,
     disk: &mut D,
     catalogue: &Catalogue,
@@ -83,7 +121,26 @@ pub(crate) fn content_of<D: TreeDisk>(
     ensures room { IfOk result (λ reply. sent + length reply ≤ MESSAGE_LIMIT) }
 {
     stored_state();
+    one_repository();
     let found = content(alloc, disk, catalogue, name)?;
     with_reply(sent, reply_len(&found)?)?;
     Ok(reply_with(alloc, name, &found)?)
+}
+
+/// The reply with the content of a name, behind replies whose stream with its end has so many bytes. `TooLarge` where it would make
+/// that longer than a message may be; then the content isn't read.
+pub(crate) fn content_of<D: TreeDisk>(
+    alloc: Global,
+    disk: &mut D,
+    catalogue: &Catalogue,
+    name: &[u8; 20],
+    sent: u64,
+) -> Result<Bytes, Stop>
+    requires { IsTrue D.disk.tells → HoldsCatalogue (D.disk.reads disk.old) catalogue.now }
+    ensures answers { Answers D.disk (IsReplyOf (Content name.now)) (IsUnansweredOf (Content name.now) sent)
+        (IsDamagedFor catalogue.now.troves (Content name.now)) disk.old disk.new result }
+    ensures room { IfOk result (λ reply. sent + length reply ≤ MESSAGE_LIMIT) }
+{
+    check_room(alloc, disk, catalogue, name, sent)?;
+    read_content(alloc, disk, catalogue, name, sent)
 }

@@ -4,15 +4,21 @@
 
 mod answering;
 mod contents;
+mod ending;
+mod feeding;
+mod halt;
 mod ids;
 mod laws;
 mod reading;
 mod replying;
 mod room;
 mod serving;
+mod session;
 mod sets;
+mod unanswered;
 
 pub use laws::{one_answer, sound_replies};
 pub use repo_mirror;
 pub use repository::change_set;
 pub use serving::serve;
+pub use session::Session;

@@ -13,8 +13,8 @@ use crate::ids::named;
 use crate::sets::missing_of;
 use repo_index::Catalogue;
 use repo_load::cny_base::{Bytes, Name, Stop};
-use repo_load::stored_state;
 use repo_load::tree_disk::TreeDisk;
+use repo_load::{one_repository, stored_state};
 use repo_mirror::Request;
 use std::alloc::Global;
 
@@ -32,6 +32,7 @@ fn named_on<D: TreeDisk>(
     ensures room { IfOk result (λ reply. sent + length reply ≤ MESSAGE_LIMIT) }
 {
     stored_state();
+    one_repository();
     let _disk = disk;
     Ok(named(alloc, catalogue, name, sent)?)
 }

@@ -15,13 +15,13 @@ use repo_mirror::{REQUEST_END, REQUEST_MAGIC};
 use std::alloc::Global;
 
 // `CNYRP01` and a line feed.
-const MAGIC: &[u8] = b"CNYRP01\n";
+pub(crate) const MAGIC: &[u8] = b"CNYRP01\n";
 
 // The item at the end of a stream of replies.
-const END: &[u8] = &[0x8f, 0, 0, 0, 0];
+pub(crate) const END: &[u8] = &[0x8f, 0, 0, 0, 0];
 
 // The item at the end of a stream of requests.
-const LAST: &[u8] = &[REQUEST_END, 0, 0, 0, 0];
+pub(crate) const LAST: &[u8] = &[REQUEST_END, 0, 0, 0, 0];
 
 // The refusal of a fault at a place.
 fn malformed(at: usize) -> Fault

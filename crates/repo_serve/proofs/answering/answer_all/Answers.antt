@@ -28,7 +28,7 @@ returns-in_err-to-clause-answers g c =
     run c.from_residual.ensures.1 (λ told refusal d. d) (λ told path bad. bad))
     (λ told p z no. absurd no)
     (λ told p refusal d. decided tree from bytes mid rest p.replies p.advances c.requests.invariant.within refusal d)
-    (λ told p path bad. damaged tree from bytes mid rest p.replies p.advances troves path bad)
+    (λ told p path bad. damaged tree from bytes mid rest p.replies p.advances c.requests.invariant.within troves path bad)
 
 pub requests-preserved : goal.requests-preserved
 requests-preserved g c =
