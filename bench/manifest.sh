@@ -1,6 +1,6 @@
 #!/bin/sh
 # Makes the manifests of a directory with so many files of 100 bytes, and of one with 20 files of 10 MB, to a file on the same disk, beside
-# `tar c` to a file, medians of five, and says the peak of memory of conary-manifest.
+# `tar c` to a file, medians of five, with the peak of memory of conary-manifest.
 #
 # Usage: bench/manifest.sh [FILES]
 # It ends with status 1 where conary-manifest takes more than 2 times as long as tar, or more than 40 MB of memory. CONARY_MANIFEST may name
@@ -46,7 +46,9 @@ def compare(what, tree):
         own.append(taken([program, "package", "bench", "/bench@bench:bench/1.0-1-1", tree], f"{room}/out.manifest"))
     first, second = statistics.median(tar), statistics.median(spent for spent, _ in own)
     memory = max(peak for _, peak in own)
-    print(f"{what}: tar {first:.3f} s, conary-manifest {second:.3f} s, {second / first:.2f} times, {memory / 1000:.1f} MB")
+    print(f"making a manifest, to a file | {what} | {round(second * 1000)} ms | {MOST_TIMES:g} times tar c")
+    print(f"tar c of the same, to a file | {what} | {round(first * 1000)} ms")
+    print(f"peak memory of making a manifest | {what} | {memory / 1000:.1f} MB | {MOST_MEMORY / 1000:g} MB")
     return second <= MOST_TIMES * first and memory <= MOST_MEMORY
 
 
@@ -60,7 +62,7 @@ try:
     for at in range(20):
         with open(f"{room}/large/usr/lib/f{at}", "wb") as out:
             out.write(os.urandom(10_000_000))
-    good = [compare(f"{files} files", f"{room}/small"), compare("200 MB", f"{room}/large")]
+    good = [compare(f"{files} files of 100 bytes", f"{room}/small"), compare("20 files of 10,000,000 bytes", f"{room}/large")]
 finally:
     shutil.rmtree(room)
 sys.exit(0 if all(good) else 1)

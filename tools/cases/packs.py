@@ -4,6 +4,8 @@ from tools.cases.rows import LABEL, Rows
 from tools.model.trees import DIR
 
 LONG_NAME, LARGE = b"f" * 250, b"x" * 140_000
+LONG_FLAVOR = b", ".join(b"f%040d" % at for at in range(60))
+LONG_DEP = b"soname: x(" + b" ".join(b"%040d" % at for at in range(64)) + b")"
 TABLE = Rows("packs", globals())
 TREE = "dir /etc; file a=1\\n /etc/foo; link etc/foo /l; file 0600 - /empty"
 
@@ -13,7 +15,7 @@ def case(row):
     given |= {"skip": 0, "sink": 0, "disk": 0, "nodes": tree(TREE)}
     for word, _, value in (field.partition(" ") for field in row.split(" | ")):
         if word in ("requires", "provides"):
-            given[word].append(tuple(value.encode().split(b" ", 1)))
+            given[word].append(tuple(TABLE.bytes(value).split(b" ", 1)))
         elif word == "config":
             given[word].append(TABLE.bytes(value))
         else:

@@ -4,7 +4,7 @@ from tools.model.manifests import Reading
 from tools.model.streams import LARGEST_CONTENT, is_owner
 from tools.model.texts import NotOfForm, Refused, of_form
 
-PIECE = 65_536
+PIECE, LONGEST_LINE = 65_536, 2_048
 
 
 def is_of_pattern(pattern, path):
@@ -32,14 +32,16 @@ class Packing:
 
         need("name", of_form(texts.name_kind)(name), not name.startswith(b"group-"))
         need("version", of_form(lambda text: texts.version_of(text, False))(version))
-        need("flavor", not flavor or (of_form(texts.flavor_of)(flavor) and texts.flavor_text(texts.flavor_of(flavor))))
+        need("flavor", not flavor or (of_form(texts.flavor_of)(flavor) and texts.flavor_text(texts.flavor_of(flavor)) and len(b"flavor " + flavor) <= LONGEST_LINE))
         lines = [b"manifest 2", (b"component " if b":" in name else b"package ") + name, b"version " + version] + [b"flavor " + flavor] * bool(flavor)
         for word, given in (("requires", requires), ("provides", provides)):
             pairs = set()
             for own, dep in given:
                 need(word, texts.is_name(own), of_form(texts.dep_of)(dep), own == name if b":" in name else own.startswith(name + b":"))
                 pairs.add((own, texts.dep_text(texts.dep_of(dep))))
-            lines += [b" ".join((word.encode(), *pair)) for pair in sorted(pairs)]
+            more = [b" ".join((word.encode(), *pair)) for pair in sorted(pairs)]
+            need(word, *(len(line) <= LONGEST_LINE for line in more))
+            lines += more
         return b"".join(line + b"\n" for line in lines)
 
     def entry(self, path, node, config):

@@ -1,10 +1,11 @@
 -- Entries that are written one behind the other.
-use Rattle.std.proofs.Common.{◌≡◌, ℕ, ◌+◌, ◌<◌, ◌≤◌, Bool, true, IsTrue, List, [], ◌∷◌, ◌++◌, length, take, Option, refl, sym, ap, subst, ◌∙◌, append-nil, get_or, codes}
+use Rattle.std.proofs.Common.{◌≡◌, ℕ, ◌+◌, ◌<◌, ◌≤◌, Bool, true, IsTrue, List, [], ◌∷◌, ◌++◌, length, take, drop, Option, refl, sym, ap, subst, ◌∙◌, append-nil, get_or, codes}
+use Rattle.std.specs.Prelude.{All}
 use Rattle.std.specs.Io.KnownBytes.{Appends}
 use Rattle.std.specs.List.{AllZip}
 use Rattle.std.proofs.lemmas.Grind.{flat_map-append}
-use Rattle.std.proofs.lemmas.List.{take_more}
-use Rattle.std.proofs.lemmas.List.Elements.{All-push}
+use Rattle.std.proofs.lemmas.List.{take_more, drop_more, take-append-drop}
+use Rattle.std.proofs.lemmas.List.Elements.{All-nil, All-cons, All-head, All-tail, All-push}
 use Rattle.tree_disk.specs.Rows.{bytes_at}
 use Rattle.tree_disk.specs.Tree.{Name, Tree}
 use Rattle.tree_disk.specs.cny-base.Path.{is_path}
@@ -15,10 +16,12 @@ use Rattle.manifest_troves.specs.file-stream.Owner.{OwnerNames}
 use Rattle.cny_manifest.specs.Grammar.{IsLine}
 use Rattle.cny_manifest.specs.Lines.{with_feed}
 use Rattle.cny_manifest.specs.Spelling.{Entry, DirEntry, FileEntry, LinkEntry, IsEntry, dir_line, file_line, link_line, target_line}
+use Rattle.cny_pack.specs.Causes.{CannotEnter, HasEntry, IsFirstWithout}
 use Rattle.cny_pack.specs.Entries.{flags_at, IsNamed, IsFileLine, entry_text, entries_text, IsEntryFor, IsEntryOfSight, GivesEntry, GivesEntries, GivesAll}
 use Rattle.cny_pack.specs.Gives.{GivesLine, GivesLink, GivesContentLine}
 use Rattle.cny_pack.specs.declared.pattern.Pattern.{Pattern}
 use Rattle.cny_pack.specs.declared.plan.Sight.{Sight}
+use Rattle.cny_pack.specs.declared.stop.Unfit.{Unfit}
 use Rattle.cny_pack.proofs.Giving.{appends_on}
 
 zip_push : {A B : Type 0} (R : A → B → Type 0) (xs : List A) (ys : List B) (x : A) (y : B) → AllZip R xs ys → R x y → AllZip R (xs ++ x ∷ []) (ys ++ y ∷ [])
@@ -37,7 +40,7 @@ pub content_from : (tells : Bool) (t u : Tree) (path : Name) (size : ℕ) (a b :
 content_from tells t u path size a b same is =
     record { content = is.content; given = is.given; is = record { long = is.is.long; told = λ told. is.is.told told ∙ ap (λ (x : Tree). bytes_at x path) (same told) } }
 
-for_from : (owns : Name → OwnerNames → Type 0) (config : List Pattern) (tells : Bool) (t u : Tree) (path : Name) (look : Look) (entry : Entry) → (IsTrue tells → t ≡ u) → IsEntryFor owns config tells t path look entry → IsEntryFor owns config tells u path look entry
+pub for_from : (owns : Name → OwnerNames → Type 0) (config : List Pattern) (tells : Bool) (t u : Tree) (path : Name) (look : Look) (entry : Entry) → (IsTrue tells → t ≡ u) → IsEntryFor owns config tells t path look entry → IsEntryFor owns config tells u path look entry
 for_from owns config tells t u path look.Nothing entry same is = absurd is
 for_from owns config tells t u path (look.Dir mode) entry same is = is
 for_from owns config tells t u path (look.File mode size) entry same is =
@@ -98,6 +101,27 @@ module _ (owns : Name → OwnerNames → Type 0) (config : List Pattern) (tells 
   next_given sights at sight a b c within is all one =
       subst (λ (l : List Sight). GivesEntries owns config tells t l a c) (ap (λ (s : Sight). take at sights ++ s ∷ []) is ∙ sym (take_more sights at sight within))
       (more_given (take at sights) sight a b c all one)
+
+  -- what got an entry has one
+  have_entries : (sights : List Sight) (entries : List Entry) → AllZip (IsEntryOfSight owns config tells t) sights entries → All (IsEntry true) entries → All (HasEntry owns config tells t) sights
+  have_entries [] [] are valid = All-nil (HasEntry owns config tells t)
+  have_entries [] (e ∷ es) are valid = absurd are
+  have_entries (s ∷ ss) [] are valid = absurd are
+  have_entries (s ∷ ss) (e ∷ es) are valid =
+      All-cons (HasEntry owns config tells t) s ss (e, are.0, All-head (IsEntry true) e es valid) (have_entries ss es are.1 (All-tail (IsEntry true) e es valid))
+
+  -- the next one gets none
+  pub first_without : (lacks : Name → Type 0) (sights : List Sight) (at : ℕ) (sight : Sight) (path : Name) (why : Unfit) (a b : Option (List ℕ)) → at < length sights → sight ≡ get_or sights at sight → GivesEntries owns config tells t (take at sights) a b
+      → path ≡ sight.path → CannotEnter lacks tells sight.path sight.look why → IsFirstWithout owns lacks config tells t sights path why
+  first_without lacks sights at sight path why a b within is given path_is cannot = record {
+    done = take at sights;
+    sight = sight;
+    rest = drop (at + 1) sights;
+    whole = ap (λ (l : List Sight). take at sights ++ l) (ap (λ (s : Sight). s ∷ drop (at + 1) sights) is ∙ sym (drop_more sights at sight within)) ∙ take-append-drop at sights;
+    path_is = path_is;
+    cannot = cannot;
+    before = have_entries (take at sights) given.entries given.are given.valid;
+  }
 
   pub all_given : (text : List ℕ) (sights : List Sight) (a b c d : Option (List ℕ)) → Appends a b text → GivesEntries owns config tells t sights b c → Appends c d (with_feed (codes "end"))
       → GivesAll owns config tells t text sights a d

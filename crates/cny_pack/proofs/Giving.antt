@@ -65,6 +65,15 @@ seen_size (Some (node.Link target)) size is = absurd (cc is)
 pub file_of_size : (t : Tree) (path : Name) (size : ℕ) → size_seen (look_of t path) ≡ Some size → IsFileOf t path size
 file_of_size t path size is = let both = seen_size (get t path) size is in record { stands = both.0; long = both.1 }
 
+size_of_file : (o : Option Node) → IsTrue (is_file o) → size_seen (seen_as o) ≡ Some (length (bytes_of o))
+size_of_file None is = absurd (cc is)
+size_of_file (Some (node.Dir mode)) is = absurd (cc is)
+size_of_file (Some (node.File mode bytes)) is = refl
+size_of_file (Some (node.Link target)) is = absurd (cc is)
+
+pub size_there : (t : Tree) (path : Name) (size : ℕ) → IsFileOf t path size → size_seen (look_of t path) ≡ Some size
+size_there t path size file = size_of_file (get t path) file.stands ∙ ap (λ (n : ℕ). Some n) file.long
+
 -- ---- what was read into a buffer
 
 pub read_front : (t : Tree) (path : Name) (at count : ℕ) (old new : List ℕ) → ReadsFrom t path at old new count → take count new ≡ take count (drop at (bytes_at t path))

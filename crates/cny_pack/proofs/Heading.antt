@@ -23,7 +23,7 @@ use Rattle.cny_manifest.specs.Body.{dep_line_cmp}
 use Rattle.cny_manifest.specs.Grammar.{IsDepField}
 use Rattle.cny_manifest.specs.Lines.{with_feed}
 use Rattle.cny_manifest.specs.Spelling.{IsDepLine, AreDepLines, IsOwnLine, magic_line, name_line, version_line}
-use Rattle.cny_pack.specs.Head.{SaysDep, IsSaidBy, SaysOneOf, SaysDeps, AreOwn, AreDeps, AddsLines, AddsId, AddsDep, AddsDeps, IsHead, dep_line_of}
+use Rattle.cny_pack.specs.Head.{SaysDep, IsSaidBy, SaysOneOf, SaysDeps, HasLine, AreOwn, AreDeps, AddsLines, AddsId, AddsDep, AddsDeps, AddsGiven, IsHead, dep_line_of}
 use Rattle.cny_pack.specs.declared.head.DepWords.{DepWords}
 use Rattle.cny_pack.specs.declared.head.Words.{Words}
 use Rattle.cny_pack.proofs.Planning.{sorted_put}
@@ -49,7 +49,7 @@ where_is x y xs within = at within.0 within.1 within.2
     at zero lt is = inl is
     at (suc i) lt is = inr (i, omega (arith, lt), is)
 
-all_back : {A B : Type 0} (f : A → B) (P : B → Type 0) (xs : List A) → All P (map f xs) → All (λ x. P (f x)) xs
+pub all_back : {A B : Type 0} (f : A → B) (P : B → Type 0) (xs : List A) → All P (map f xs) → All (λ x. P (f x)) xs
 all_back f P [] all = All-nil (λ x. P (f x))
 all_back f P (x ∷ xs) all = All-cons (λ y. P (f y)) x xs (All-head P (f x) (map f xs) all) (all_back f P xs (All-tail P (f x) (map f xs) all))
 
@@ -148,12 +148,13 @@ pub added_one : (old new line : List ℕ) → new ≡ old ++ with_feed line → 
 added_one old new line is = is ∙ ap (λ (l : List ℕ). old ++ l) (sym (append-nil (with_feed line)))
 
 pub written_none : (word text : List ℕ) → AddsDeps word [] text text []
-written_none word text = record { texts = []; same = refl; are = tt; added = sym (append-nil text) }
+written_none word text = record { texts = []; fit = All-nil (HasLine word); same = refl; are = tt; added = sym (append-nil text) }
 
 pub written_more : (word : List ℕ) (done : List Pair) (pair : Pair) (old mid new : List ℕ) (lines : List DepLine) → AddsDeps word done old mid lines → AddsDep word (dep_line_of pair) mid new
     → AddsDeps word (done ++ pair ∷ []) old new (lines ++ dep_line_of pair ∷ [])
 written_more word done pair old mid new lines so_far one = record {
   texts = so_far.texts ++ one.line ∷ [];
+  fit = All-push (HasLine word) lines (dep_line_of pair) so_far.fit one.fits;
   same = ap (λ (l : List DepLine). l ++ dep_line_of pair ∷ []) so_far.same ∙ sym (map-append dep_line_of done (pair ∷ []));
   are = lines_push word lines so_far.texts (dep_line_of pair) one.line so_far.are one.is;
   added = added_on old mid new so_far.texts (one.line ∷ []) so_far.added (added_one mid new one.line one.added);
@@ -177,9 +178,13 @@ dep_field text dep utf8 is valid = record {
 
 -- ---- all of them
 
-pub head_is : (words : Words) (first a b c : List ℕ) (id : TroveId) (required provided : List Pair) (lines more : List DepLine) → first ≡ with_feed (magic_line true) → AddsId words first a id → AreDeps id.name words.requires_.now required
-    → AreDeps id.name words.provides.now provided → AddsDeps (codes "requires") required a b lines → AddsDeps (codes "provides") provided b c more → IsHead words (record { text = c; id = id; requires_ = lines; provides = more })
-head_is words first a b c id required provided lines more start adds req prov one two =
+pub head_is : (words : Words) (first a b c : List ℕ) (id : TroveId) (lines more : List DepLine) → first ≡ with_feed (magic_line true) → AddsId words first a id → AddsGiven id.name (codes "requires") words.requires_.now a b lines
+    → AddsGiven id.name (codes "provides") words.provides.now b c more → IsHead words (record { text = c; id = id; requires_ = lines; provides = more })
+head_is words first a b c id lines more start adds required provided =
+    let one = required.added in
+    let two = provided.added in
+    let req = required.are in
+    let prov = provided.are in
     let front : List (List ℕ) = name_line id.name ∷ version_line words.version.now ∷ adds.flavor in
     let all : AddsLines ((front ++ one.texts) ++ two.texts) first c = added_on first b c (front ++ one.texts) two.texts (added_on first a b front one.texts adds.added one.added) two.added in
     record {

@@ -1,9 +1,13 @@
 pub mod Looking
+pub mod Fitting
+pub mod Stopping
 pub mod Walking
 pub mod Giving
 pub mod Entering
 pub mod Planning
 pub mod Standing
 pub mod Heading
+pub mod Refusing
 pub mod Packing
+pub mod Causing
 pub mod Reading

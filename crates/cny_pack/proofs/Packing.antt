@@ -1,20 +1,15 @@
 -- What is written is a manifest, and that of the tree.
-use Rattle.std.proofs.Common.{◌≡◌, ◌≢◌, ⊎_elim, ℕ, Bool, true, false, cond, not, ◌&&◌, IsTrue, ◌||◌, List, [], ◌∷◌, ◌++◌, map, flat_map, Option, Some, None, is_some, refl, sym, ap, subst, ◌∙◌, append_assoc, append-nil, codes}
+use Rattle.std.proofs.Common.{◌≡◌, ◌≢◌, ℕ, Bool, true, false, IsTrue, ◌||◌, List, [], ◌∷◌, ◌++◌, map, flat_map, Option, Some, None, is_some, refl, sym, ap, subst, ◌∙◌, append_assoc, append-nil, codes}
 use Rattle.std.specs.Prelude.{All}
-use Rattle.std.specs.BTreeMap.{IsOrdered, is_at}
 use Rattle.std.specs.FinMap as tree
-use Rattle.std.specs.Map.{lookup}
 use Rattle.std.specs.Io.KnownBytes.{Appends}
 use Rattle.std.specs.List.{AllZip}
 use Rattle.std.specs.List.Sorted.{IsStrictlySortedBy}
-use Rattle.std.proofs.lemmas.Bool.{cases_Bool}
 use Rattle.std.proofs.lemmas.Grind.{flat_map-append}
 use Rattle.std.proofs.lemmas.List.Elements.{All-nil, All-cons, All-head, All-tail}
 use Rattle.tree_disk.specs.cny-base.Path.{root}
 use Rattle.tree_disk.specs.cny-base.declared.node.Node.{Node}
 use Rattle.tree_disk.specs.cny-base.declared.node.Node.TheVariants as node
-use Rattle.tree_disk.specs.Laws.{same_means}
-use Rattle.tree_disk.specs.Looks.{sees_nothing}
 use Rattle.tree_disk.specs.Rows.{look_of, seen_as, bytes_of}
 use Rattle.tree_disk.specs.Tree.{Name, Tree, same_name}
 use Rattle.tree_disk.specs.declared.disk.Look.{Look}
@@ -30,19 +25,19 @@ use Rattle.cny_manifest.specs.Body.{Body, is_group_kind}
 use Rattle.cny_manifest.specs.Grammar.{IsLine}
 use Rattle.cny_manifest.specs.Lines.{with_feed}
 use Rattle.cny_manifest.specs.Spelling.{Entry, FileEntry, file_at, contents_in, entry_items, IsEntry, KeepsToKind, magic_line, name_line, version_line, ref_line}
+use Rattle.cny_pack.specs.Causes.{sight_path, is_there, IsSightIn, AreSightsOf}
 use Rattle.cny_pack.specs.Entries.{flags_at, entry_text, entries_text, IsEntryFor, IsEntryOfSight, GivesAll}
 use Rattle.cny_pack.specs.Head.{IsHead}
 use Rattle.cny_pack.specs.Judged.{IsJudged}
 use Rattle.cny_pack.specs.Packs.{IsPack, entry_path, has_entry, IsEntryIn, AreNodes, WritesPack}
-use Rattle.cny_pack.specs.Plan.{unfit_of, fits, sights_of, IsFit}
-use Rattle.cny_pack.specs.Walk.{Found, seen_at, stands, FindsAll}
+use Rattle.cny_pack.specs.Plan.{unfit_of, fits}
+use Rattle.cny_pack.specs.Walk.{stands}
 use Rattle.cny_pack.specs.declared.head.Head.{Head}
 use Rattle.cny_pack.specs.declared.head.Words.{Words}
 use Rattle.cny_pack.specs.declared.pattern.Pattern.{Pattern}
 use Rattle.cny_pack.specs.declared.plan.Rules.{Rules}
 use Rattle.cny_pack.specs.declared.plan.Sight.{Sight}
-use Rattle.cny_pack.specs.declared.stop.Unfit.{Unfit}
-use Rattle.cny_pack.proofs.Planning.{by_bytes, sight_path, sorted_pull, sights_rise, fit_of, WasSeen, each_seen, is_there, there}
+use Rattle.cny_pack.proofs.Planning.{by_bytes, sorted_pull}
 use Rattle.cny_pack.proofs.Standing.{troves_alike, alike_entries}
 
 -- ---- the bytes
@@ -157,28 +152,6 @@ stood : (o : Option Node) → is_some o ≡ true → (node : Node) × (o ≡ Som
 stood None is = absurd (cc is)
 stood (Some node) is = (node, refl)
 
-seen_there : (o : Option Look) → is_some o ≡ true → (look : Look) × (o ≡ Some look)
-seen_there None is = absurd (cc is)
-seen_there (Some look) is = (look, refl)
-
-not_nothing : (n : Node) → sees_nothing (seen_as (Some n)) ≡ false
-not_nothing (node.Dir mode) = refl
-not_nothing (node.File mode bytes) = refl
-not_nothing (node.Link target) = refl
-
-fits_by : (path : Name) (look : Look) → unfit_of path look ≡ None → sees_nothing look ≡ false → fits (path, look) ≡ true
-fits_by path look fit some = ap (λ (o : Option Unfit). not (is_some o) && not (sees_nothing look)) fit ∙ ap not some
-
-fit_at : (p : Name) (look : Look) (es : List (Name × Look)) → All IsFit es → lookup (is_at (by_bytes p)) es ≡ Some look → unfit_of p look ≡ None
-fit_at p look [] all found = absurd (cc found)
-fit_at p look (e ∷ es) all found = at (is_at (by_bytes p) e.0) refl found (λ later. fit_at p look es (All-tail IsFit e es all) later)
-  where
-    at : (b : Bool) → is_at (by_bytes p) e.0 ≡ b → cond b (Some e.1) (lookup (is_at (by_bytes p)) es) ≡ Some look → (lookup (is_at (by_bytes p)) es ≡ Some look → unfit_of p look ≡ None) → unfit_of p look ≡ None
-    at true same found rest =
-        let is : e.1 ≡ look = cc found in
-        ap (λ (q : Name). unfit_of q look) (same_means p e.0 same) ∙ ap (unfit_of e.0) (sym is) ∙ All-head IsFit e es all
-    at false other found rest = rest found
-
 module _ (owns : Name → OwnerNames → Type 0) (rules : Rules) (tells : Bool) (t : Tree) (told : IsTrue tells) where
   entry_in : (path : Name) (n : Node) (entry : Entry) → tree.get t path ≡ Some n → path ≢ root → unfit_of path (look_of t path) ≡ None → IsEntryFor owns rules.config.now tells t path (seen_as (Some n)) entry → IsEntryIn owns rules t entry
   entry_in path (node.Dir mode) entry is other fit named =
@@ -195,20 +168,17 @@ module _ (owns : Name → OwnerNames → Type 0) (rules : Rules) (tells : Bool) 
   entry_in path (node.Link target) entry is other fit same =
       subst (IsEntryIn owns rules t) (sym same) (record { node = node.Link target; stands = is; not_root = other; fits = fit; is = refl })
 
-  one_in : (seen : Found) (sight : Sight) (entry : Entry) → FindsAll t seen → WasSeen seen sight → IsEntryFor owns rules.config.now tells t sight.path sight.look entry → IsEntryIn owns rules t entry
-  one_in seen sight entry finds was is =
-      let sights = finds.sights sight.path sight.look was.at in
-      let found = stood (tree.get t sight.path) sights.1 in
-      let look : sight.look ≡ seen_as (Some found.0) = sights.0 ∙ ap seen_as found.1 in
-      entry_in sight.path found.0 entry found.1 sights.2 (ap (unfit_of sight.path) (sym sights.0) ∙ fit_of sight.path sight.look was.can)
-      (subst (λ (l : Look). IsEntryFor owns rules.config.now tells t sight.path l entry) look is)
+  one_in : (sight : Sight) (entry : Entry) → IsSightIn t sight → IsEntryFor owns rules.config.now tells t sight.path sight.look entry → IsEntryIn owns rules t entry
+  one_in sight entry here is =
+      let found = stood (tree.get t sight.path) here.here in
+      entry_in sight.path found.0 entry found.1 here.not_root here.fits (subst (λ (l : Look). IsEntryFor owns rules.config.now tells t sight.path l entry) (here.seen ∙ ap seen_as found.1) is)
 
-  each_in : (seen : Found) (sights : List Sight) (entries : List Entry) → FindsAll t seen → All (WasSeen seen) sights → AllZip (IsEntryOfSight owns rules.config.now tells t) sights entries → All (IsEntryIn owns rules t) entries
-  each_in seen [] [] finds was are = All-nil (IsEntryIn owns rules t)
-  each_in seen [] (e ∷ es) finds was are = absurd are
-  each_in seen (s ∷ ss) [] finds was are = absurd are
-  each_in seen (s ∷ ss) (e ∷ es) finds was are =
-      All-cons (IsEntryIn owns rules t) e es (one_in seen s e finds (All-head (WasSeen seen) s ss was) are.0) (each_in seen ss es finds (All-tail (WasSeen seen) s ss was) are.1)
+  each_in : (sights : List Sight) (entries : List Entry) → All (IsSightIn t) sights → AllZip (IsEntryOfSight owns rules.config.now tells t) sights entries → All (IsEntryIn owns rules t) entries
+  each_in [] [] was are = All-nil (IsEntryIn owns rules t)
+  each_in [] (e ∷ es) was are = absurd are
+  each_in (s ∷ ss) [] was are = absurd are
+  each_in (s ∷ ss) (e ∷ es) was are =
+      All-cons (IsEntryIn owns rules t) e es (one_in s e (All-head (IsSightIn t) s ss was) are.0) (each_in ss es (All-tail (IsSightIn t) s ss was) are.1)
 
   has_there : (p : Name) (sights : List Sight) (entries : List Entry) → AllZip (IsEntryOfSight owns rules.config.now tells t) sights entries → has_entry entries p ≡ is_there p sights
   has_there p [] [] are = refl
@@ -217,37 +187,21 @@ module _ (owns : Name → OwnerNames → Type 0) (rules : Rules) (tells : Bool) 
   has_there p (s ∷ ss) (e ∷ es) are =
       ap (λ (q : Name). same_name p q || has_entry es p) (zip_path owns rules.config.now tells t s e are.0) ∙ ap (λ (b : Bool). same_name p s.path || b) (has_there p ss es are.1)
 
-  pub are_nodes : (seen : Found) (entries : List Entry) → FindsAll t seen → IsOrdered by_bytes seen → (rules.skip ≡ false → All IsFit seen.entries) → AllZip (IsEntryOfSight owns rules.config.now tells t) (sights_of seen.entries) entries
-      → AreNodes owns rules t entries
-  are_nodes seen entries finds ordered fit are = record {
-    each = each_in seen (sights_of seen.entries) entries finds (each_seen seen ordered) are;
-    all = λ p stood_there other may. all_in p stood_there other may;
+  pub are_nodes : (sights : List Sight) (entries : List Entry) → AreSightsOf rules.skip t sights → AllZip (IsEntryOfSight owns rules.config.now tells t) sights entries → AreNodes owns rules t entries
+  are_nodes sights entries of are = record {
+    each = each_in sights entries of.each are;
+    all = λ p here other may. has_there p sights entries are ∙ of.all p here other may;
   }
-    where
-      all_in : (p : Name) → stands t p ≡ true → p ≢ root → (IsTrue rules.skip → unfit_of p (look_of t p) ≡ None) → has_entry entries p ≡ true
-      all_in p here other may =
-          let was = seen_there (seen_at seen p) (finds.all p here other) in
-          let sights = finds.sights p was.0 was.1 in
-          let unfit : unfit_of p was.0 ≡ None = ⊎_elim
-          (λ skips. ap (unfit_of p) sights.0 ∙ may skips)
-          (λ keeps. fit_at p was.0 seen.entries (fit keeps) was.1)
-          (cases_Bool rules.skip) in
-          let node = stood (tree.get t p) here in
-          let some : sees_nothing was.0 ≡ false = ap sees_nothing (sights.0 ∙ ap seen_as node.1) ∙ not_nothing node.0 in
-          has_there p (sights_of seen.entries) entries are ∙ there p was.0 seen.entries was.1 (fits_by p was.0 unfit some)
 
 -- ---- all that was written
 
-pub pack_written : (owns : Name → OwnerNames → Type 0) (rules : Rules) (tells : Bool) (t u : Tree) (words : Words) (head : Head) (seen : Found) (text : List ℕ) (first second : List Sight) (old new : Option (List ℕ)) → IsHead words head → (IsTrue tells → FindsAll t seen)
-    → (IsTrue tells → u ≡ t) → IsOrdered by_bytes seen → (rules.skip ≡ false → All IsFit seen.entries) → first ≡ sights_of seen.entries → second ≡ sights_of seen.entries → text ≡ head.text → IsJudged head.id head.requires_ head.provides first
-    → GivesAll owns rules.config.now tells u text second old new → WritesPack owns rules tells t words old new
-pack_written owns rules tells t u words head seen text first second old new head_is finds same ordered fit one two text_is judged all =
-    let sights : List Sight = sights_of seen.entries in
-    let are : AllZip (IsEntryOfSight owns rules.config.now tells u) sights all.entries = subst (λ (l : List Sight). AllZip (IsEntryOfSight owns rules.config.now tells u) l all.entries) two all.are in
-    record {
-      bytes = head.text ++ (entries_text all.entries ++ with_feed (codes "end"));
-      entries = all.entries;
-      given = subst (λ (l : List ℕ). Appends old new (l ++ (entries_text all.entries ++ with_feed (codes "end")))) text_is all.given;
-      is = pack_is owns rules.config.now tells u words head sights all.entries head_is (subst (λ (l : List Sight). IsJudged head.id head.requires_ head.provides l) one judged) (sights_rise seen ordered) are all.valid;
-      nodes = λ told. are_nodes owns rules tells t told seen all.entries (finds told) ordered fit (subst (λ (x : Tree). AllZip (IsEntryOfSight owns rules.config.now tells x) sights all.entries) (same told) are);
-    }
+pub pack_written : (owns : Name → OwnerNames → Type 0) (rules : Rules) (tells : Bool) (t u : Tree) (words : Words) (head : Head) (sights : List Sight) (text : List ℕ) (old new : Option (List ℕ)) → IsHead words head
+    → (IsTrue tells → AreSightsOf rules.skip t sights) → IsStrictlySortedBy by_bytes (map sight_path sights) → (IsTrue tells → u ≡ t) → text ≡ head.text → IsJudged head.id head.requires_ head.provides sights
+    → GivesAll owns rules.config.now tells u text sights old new → WritesPack owns rules tells t words old new
+pack_written owns rules tells t u words head sights text old new head_is of rise same text_is judged all = record {
+  bytes = head.text ++ (entries_text all.entries ++ with_feed (codes "end"));
+  entries = all.entries;
+  given = subst (λ (l : List ℕ). Appends old new (l ++ (entries_text all.entries ++ with_feed (codes "end")))) text_is all.given;
+  is = pack_is owns rules.config.now tells u words head sights all.entries head_is judged rise all.are all.valid;
+  nodes = λ told. are_nodes owns rules tells t told sights all.entries (of told) (subst (λ (x : Tree). AllZip (IsEntryOfSight owns rules.config.now tells x) sights all.entries) (same told) all.are);
+}

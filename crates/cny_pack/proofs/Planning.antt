@@ -12,7 +12,7 @@ use Rattle.std.specs.declared.cmp.Ordering.{Ordering}
 use Rattle.std.specs.declared.cmp.Ordering.TheVariants.{Less}
 use Rattle.std.proofs.lemmas.Bool.{ltb-false}
 use Rattle.std.proofs.lemmas.List.{map-append}
-use Rattle.std.proofs.lemmas.List.Elements.{All-nil, All-cons, All-head, All-tail, All-map, All-filter, filter_passes, filter-append, Contains-append_right}
+use Rattle.std.proofs.lemmas.List.Elements.{All-nil, All-cons, All-head, All-tail, All-map, All-filter, filter_passes, filter-append}
 use Rattle.std.proofs.lemmas.List.Kept.{IsStrictlySortedBy-filter}
 use Rattle.std.proofs.lemmas.Map.Views.{All-found}
 use Rattle.tree_disk.specs.cny-base.Reserved.{is_forbidden}
@@ -22,6 +22,7 @@ use Rattle.tree_disk.specs.Laws.{same_means}
 use Rattle.tree_disk.specs.Tree.{Name, same_name}
 use Rattle.tree_disk.specs.declared.disk.Look.{Look}
 use Rattle.tree_disk.specs.declared.disk.Look.TheVariants as look
+use Rattle.cny_pack.specs.Causes.{sight_path, is_there}
 use Rattle.cny_pack.specs.Plan.{unfit_by_size, unfit_of, fits, sight_of, sights_of, CanStand}
 use Rattle.cny_pack.specs.Walk.{Found, seen_at}
 use Rattle.cny_pack.specs.declared.plan.Sight.{Sight}
@@ -61,9 +62,6 @@ by_bytes = slice_cmp nat_cmp
 
 abbrev pub pair_path : Name × Look → Name
 pair_path pair = pair.0
-
-abbrev pub sight_path : Sight → Name
-sight_path sight = sight.path
 
 map_twice : (xs : List (Name × Look)) → map sight_path (map sight_of xs) ≡ map pair_path xs
 map_twice [] = refl
@@ -110,9 +108,6 @@ each_seen seen ordered =
 
 -- ---- all is there
 
-abbrev pub is_there : Name → List Sight → Bool
-is_there p sights = list_any (λ sight. same_name p sight.path) sights
-
 there_later : (p : Name) (e : Name × Look) (es : List (Name × Look)) → is_there p (sights_of es) ≡ true → is_there p (sights_of (e ∷ es)) ≡ true
 there_later p e es there = at (fits e) refl
   where
@@ -143,11 +138,6 @@ there p look (e ∷ es) found is = at (is_at (by_bytes p) e.0) refl found (λ la
     at false other found rest = there_later p e es (rest found)
 
 -- ---- what is left of a list
-
-pub stands_in : (done left rest all : List (Name × Look)) (pair : Name × Look) → done ++ left ≡ all → left ≡ pair ∷ rest → Contains all pair
-stands_in done left rest all pair whole is =
-    subst (λ (l : List (Name × Look)). Contains l pair) (ap (λ (l : List (Name × Look)). done ++ l) (sym is) ∙ whole)
-    (Contains-append_right done (pair ∷ rest) pair (0, omega arith, refl))
 
 pub one_more : (done left rest all : List (Name × Look)) (pair : Name × Look) → done ++ left ≡ all → left ≡ pair ∷ rest → (done ++ pair ∷ []) ++ rest ≡ all
 one_more done left rest all pair whole is = append_assoc done (pair ∷ []) rest ∙ ap (λ (l : List (Name × Look)). done ++ l) (sym is) ∙ whole

@@ -28,7 +28,7 @@ use Rattle.manifest_troves.proofs.Components.{troves_package, troves_component, 
 use Rattle.manifest_troves.proofs.file-stream.Digests.{digest_long}
 use Rattle.cny_manifest.specs.Spelling.{Entry, DirEntry, FileEntry, LinkEntry, file_at, IsEntry}
 use Rattle.cny_pack.specs.Entries.{flags_at, IsEntryFor, IsEntryOfSight}
-use Rattle.cny_pack.specs.Judged.{StandsFor, lines_with}
+use Rattle.cny_pack.specs.Judged.{StandsFor, IsJudged, lines_with}
 use Rattle.cny_pack.specs.declared.pattern.Pattern.{Pattern}
 use Rattle.cny_pack.specs.declared.plan.Sight.{Sight}
 use Rattle.cny_pack.proofs.Planning.{by_bytes, sorted_pull, sorted_put}
@@ -163,7 +163,26 @@ module _ (id : TroveId) (requires_ provides : List DepLine) (fs gs : List FileAt
           (components_alike names (All-tail IsTrove (package_of id names) (map (component_trove (lines_with id requires_ provides fs)) names) old))))
       at Group is = subst (All IsTrove) (troves_group (lines_with id requires_ provides fs) is ∙ sym (troves_group (lines_with id requires_ provides gs) is)) are
 
--- ---- what stands for what was seen, and its entry
+-- ---- what stands for what was seen
+
+alike_files : (sights : List Sight) (files others : List FileAt) → AllZip StandsFor sights files → AllZip StandsFor sights others → All IsFileAt others → AllZip Alike files others
+alike_files [] [] [] first next valid = tt
+alike_files [] [] (o ∷ os) first next valid = absurd next
+alike_files [] (f ∷ fs) os first next valid = absurd first
+alike_files (s ∷ ss) [] os first next valid = absurd first
+alike_files (s ∷ ss) (f ∷ fs) [] first next valid = absurd next
+alike_files (s ∷ ss) (f ∷ fs) (o ∷ os) first next valid = (
+  record { path = next.0.path ∙ sym first.0.path; kind = next.0.kind ∙ sym first.0.kind; valid = All-head IsFileAt o os valid },
+  alike_files ss fs os first.1 next.1 (All-tail IsFileAt o os valid),
+)
+
+-- where those of some files break the rules, those of all files do
+pub unjudged : (id : TroveId) (requires_ provides : List DepLine) (sights : List Sight) (files : List FileAt) → AllZip StandsFor sights files → All IsFileAt files → (AreTroves (lines_with id requires_ provides files) → ⊥)
+    → IsJudged id requires_ provides sights → ⊥
+unjudged id requires_ provides sights files stand valid broken judged =
+    broken (troves_alike id requires_ provides judged.files files (alike_files sights judged.files files judged.stand stand valid) judged.troves)
+
+-- ---- and its entry
 
 module _ (owns : Name → OwnerNames → Type 0) (config : List Pattern) (tells : Bool) (t : Tree) where
   alike_entry : (sight : Sight) (file : FileAt) (entry : Entry) → StandsFor sight file → IsEntryFor owns config tells t sight.path sight.look entry → IsEntry true entry → Alike file (file_at entry)

@@ -2,7 +2,7 @@
 use Rattle.std.specs.Prelude.{◌≡◌, ℕ, false, true, IsTrue, List, ◌∷◌, ◌++◌, flat_map, map, All, Contains, Option, Some, None, codes}
 use Rattle.std.specs.Borrow.{Bor}
 use Rattle.manifest_troves.specs.cny-base.Name.{kind_of_name}
-use Rattle.cny_dep.specs.Dep.{Dependency}
+use Rattle.cny_dep.specs.Dep.{Dependency, dep_text}
 use Rattle.cny_version.specs.Version.{WholeVersion}
 use Rattle.cny_flavor.specs.declared.parts.Parts.{Parts}
 use Rattle.cny_flavor.specs.Canonical.{no_parts}
@@ -122,9 +122,17 @@ pub record AddsId (words : Words) (old new : List ℕ) (id : TroveId) : Type 0 w
 abbrev pub dep_line_of : List ℕ × Dependency → DepLine
 dep_line_of pair = record { name = pair.0; dep = pair.1 }
 
+-- the line of a component and a dependency, with the dependency's canonical text
+abbrev pub dep_line : List ℕ → DepLine → List ℕ
+dep_line word line = word ++ 32 ∷ (line.name ++ 32 ∷ dep_text line.dep)
+
+abbrev pub HasLine : List ℕ → DepLine → Type 0
+HasLine word line = IsLine (dep_line word line)
+
 -- the line of a dependency is added
 pub record AddsDep (word : List ℕ) (dep : DepLine) (old new : List ℕ) : Type 0 where
   pub line : List ℕ
+  pub fits : HasLine word dep
   pub is : IsDepLine word dep line
   pub added : new ≡ old ++ with_feed line
 
@@ -135,9 +143,16 @@ pub record AreDeps (whole : List ℕ) (given : List DepWords) (deps : List (List
 
 pub record AddsDeps (word : List ℕ) (deps : List (List ℕ × Dependency)) (old new : List ℕ) (lines : List DepLine) : Type 0 where
   pub texts : List (List ℕ)
+  pub fit : All (HasLine word) lines
   pub same : lines ≡ map dep_line_of deps
   pub are : AreDepLines word lines texts
   pub added : AddsLines texts old new
+
+-- the given ones, and their lines
+pub record AddsGiven (whole word : List ℕ) (given : List DepWords) (old new : List ℕ) (lines : List DepLine) : Type 0 where
+  pub deps : List (List ℕ × Dependency)
+  pub are : AreDeps whole given deps
+  pub added : AddsDeps word deps old new lines
 
 -- what the words say, in the first lines of a manifest
 pub record IsHead (words : Words) (head : Head) : Type 0 where

@@ -7,4 +7,7 @@ pub mod Head
 pub mod Entries
 pub mod Gives
 pub mod Packs
+pub mod Causes
+pub mod Halts
 pub use Rattle.tree_disk.specs as tree-disk
+pub use Rattle.cny_flow.specs as cny-flow

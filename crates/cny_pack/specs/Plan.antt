@@ -1,10 +1,11 @@
 -- What can be in a manifest.
-use Rattle.std.specs.Prelude.{◌≡◌, ℕ, Bool, true, false, not, ◌&&◌, nat_lt, is_some, if◌then◌else◌, List, map, Option, Some, None, Contains}
+use Rattle.std.specs.Prelude.{◌≡◌, ℕ, Bool, true, false, not, ◌&&◌, nat_lt, is_some, if◌then◌else◌, List, map, Option, Some, None}
 use Rattle.std.specs.List.{filter}
 use Rattle.tree_disk.specs.cny-base.Reserved.{is_forbidden}
 use Rattle.tree_disk.specs.cny-base.declared.limits.TheConstants.{CONTENT_LIMIT}
 use Rattle.tree_disk.specs.Looks.{sees_nothing, sees_dir, size_seen}
-use Rattle.tree_disk.specs.Tree.{Name}
+use Rattle.tree_disk.specs.Rows.{look_of}
+use Rattle.tree_disk.specs.Tree.{Name, Tree}
 use Rattle.tree_disk.specs.declared.disk.Look.{Look}
 use Rattle.cny_pack.specs.declared.plan.Sight.{Sight}
 use Rattle.cny_pack.specs.declared.stop.PackStop.{PackStop}
@@ -39,12 +40,12 @@ IsFit seen = unfit_of seen.0 seen.1 ≡ None
 abbrev pub CanStand : Sight → Type 0
 CanStand sight = fits (sight.path, sight.look) ≡ true
 
+-- it stands there as it was seen
+abbrev pub IsAsSeen : Tree → Sight → Type 0
+IsAsSeen t sight = sight.look ≡ look_of t sight.path
+
 -- it can't be in a manifest, and isn't to be left out
 abbrev pub RefusesOne : Name → Look → Bool → PackStop → Type 0
 RefusesOne path look skip (pack.Unfit at why) = (at ≡ path) × (unfit_of path look ≡ Some why) × (skip ≡ false)
 RefusesOne path look skip pack.Memory = Unit {0}
 RefusesOne path look skip _ = ⊥
-
--- one of them is refused so
-abbrev pub RefusesOf : List (Name × Look) → Bool → PackStop → Type 0
-RefusesOf seen skip stop = (pair : Name × Look) × Contains seen pair × RefusesOne pair.0 pair.1 skip stop

@@ -1,21 +1,24 @@
 //! The contents of files, in pieces.
-ghost use Rattle.std.specs.Prelude.{◌≡◌, ◌≤◌, ◌-◌, length, take, drop, Some, IfOk, OnOk, IsTrue};
+ghost use Rattle.std.specs.Prelude.{◌≡◌, ◌<◌, ◌≤◌, ◌-◌, length, min, take, drop, IfErr, IfOk, OnOk, IsTrue};
 ghost use Rattle.tree_disk.specs.Looks.{size_seen};
-ghost use Rattle.tree_disk.specs.Rows.{bytes_at, is_file_at};
+ghost use Rattle.tree_disk.specs.Rows.{bytes_at, is_file_at, look_of};
+ghost use Rattle.tree_disk.specs.cny-base.Count.{Rose};
+ghost use Rattle.cny_pack.specs.Causes.{KeepsCounts};
 ghost use Rattle.cny_pack.specs.Entries.{IsFileOf};
 ghost use Rattle.cny_pack.specs.Gives.{GivesContent, GivesPiece};
+ghost use Rattle.cny_pack.specs.Halts.{IsHalt, Never, OnlyChanged};
 
 use crate::stop::{Halt, Unfit, halt_of};
 use cny_flow::Sink;
 use std::alloc::Global;
 use tree_disk::cny_base::Path;
-use tree_disk::{Look, TreeDisk, steps};
+use tree_disk::{TreeDisk, steps};
 
-// Where so many bytes were read before, whether a piece of this length leaves the file within its size, and another than the last
-// one ends before it.
+// Whether a piece of this length behind so many bytes leaves the file within its size, and is empty only at its end.
 fn fits(size: u64, at: u64, count: usize) -> bool
     ensures within { IsTrue result → count ≤ size - at }
     ensures end { IsTrue result → count ≡ 0 → size - at ≡ 0 }
+    ensures all { count ≤ size - at → (count ≡ 0 → size - at ≡ 0) → IsTrue result }
 {
     let left = size.saturating_sub(at);
     if count == 0 {
@@ -36,7 +39,10 @@ fn read_piece<D: TreeDisk>(
     requires { IsTrue D.disk.tells → IsTrue (is_file_at (D.disk.reads disk.old) path.now) }
     ensures most { IfOk result (λ count. count ≤ length buf.old) }
     ensures told { IsTrue D.disk.tells → IfOk result (λ count. take count buf.new ≡ take count (drop at (bytes_at (D.disk.reads disk.old) path.now))) }
+    ensures counted { IsTrue D.disk.tells → IfOk result (λ count. count ≡ min (length buf.old) (length (bytes_at (D.disk.reads disk.old) path.now) - at)) }
     ensures same { IsTrue D.disk.tells → D.disk.reads disk.new ≡ D.disk.reads disk.old }
+    ensures later { D.disk.faults disk.old ≤ D.disk.faults disk.new }
+    ensures stops { IfErr result (IsHalt Never (Rose (D.disk.faults disk.old) (D.disk.faults disk.new)) ⊥) }
 {
     match steps::read_at(alloc, disk, path, at, buf) {
         Ok(count) => Ok(count),
@@ -44,41 +50,35 @@ fn read_piece<D: TreeDisk>(
     }
 }
 
-/// Whether a file of this size stands at the path still: else it has changed since it was looked at.
+/// Looks whether a file of this size stands at the path still: else it has changed since it was looked at.
 pub(crate) fn check_file<D: TreeDisk>(
     alloc: Global,
     disk: &mut D,
     path: &Path,
     size: u64,
 ) -> Result<(), Halt>
-    ensures file { IsTrue D.disk.tells → OnOk result (IsFileOf (D.disk.reads disk.old) path.now size) }
+    requires { IsTrue D.disk.tells → IsFileOf (D.disk.reads disk.old) path.now size }
     ensures same { IsTrue D.disk.tells → D.disk.reads disk.new ≡ D.disk.reads disk.old }
+    ensures later { D.disk.faults disk.old ≤ D.disk.faults disk.new }
+    ensures stops { IfErr result (IsHalt (OnlyChanged (IsTrue D.disk.tells → ⊥)) (Rose (D.disk.faults disk.old) (D.disk.faults disk.new)) ⊥) }
 {
-    let now = size_now(alloc, disk, path)?;
-    if now != size {
-        return Err(Halt::Unfit(Unfit::Changed));
+    let seen = size_now(alloc, disk, path)?;
+    match seen {
+        Some(now) if now == size => Ok(()),
+        _ => Err(Halt::Unfit(Unfit::Changed)),
     }
-    Ok(())
 }
 
-// The size of the file at a path.
-fn size_now<D: TreeDisk>(alloc: Global, disk: &mut D, path: &Path) -> Result<u64, Halt>
-    ensures file { IsTrue D.disk.tells → IfOk result (IsFileOf (D.disk.reads disk.old) path.now) }
+// The size of the file at a path; none where no file stands there.
+fn size_now<D: TreeDisk>(alloc: Global, disk: &mut D, path: &Path) -> Result<Option<u64>, Halt>
+    ensures seen { IsTrue D.disk.tells → IfOk result (λ size. size ≡ size_seen (look_of (D.disk.reads disk.old) path.now)) }
     ensures same { IsTrue D.disk.tells → D.disk.reads disk.new ≡ D.disk.reads disk.old }
+    ensures later { D.disk.faults disk.old ≤ D.disk.faults disk.new }
+    ensures stops { IfErr result (IsHalt Never (Rose (D.disk.faults disk.old) (D.disk.faults disk.new)) ⊥) }
 {
     match steps::look(alloc, disk, path) {
-        Ok(look) => sized(&look),
+        Ok(look) => Ok(look.size()),
         Err(stop) => Err(halt_of(stop)),
-    }
-}
-
-// The size of a file that was seen.
-fn sized(look: &Look) -> Result<u64, Halt>
-    ensures { IfOk result (λ size. size_seen look.now ≡ Some size) }
-{
-    match look {
-        Look::File { size, .. } => Ok(*size),
-        _ => Err(Halt::Unfit(Unfit::Changed)),
     }
 }
 
@@ -93,11 +93,14 @@ fn give_piece<D: TreeDisk, S: Sink>(
     buf: &mut [u8],
     out: &mut S,
 ) -> Result<usize, Halt>
-    requires { IsTrue D.disk.tells → IsTrue (is_file_at (D.disk.reads disk.old) path.now) }
+    requires file { IsTrue D.disk.tells → IsFileOf (D.disk.reads disk.old) path.now size }
+    requires room { 0 < length buf.old }
     ensures given { IfOk result (λ count. GivesPiece D.disk.tells (D.disk.reads disk.old) path.now at count (S.sink.written out.old) (S.sink.written out.new)) }
     ensures within { IfOk result (λ count. count ≤ size - at) }
     ensures end { IfOk result (λ count. count ≡ 0 → size - at ≡ 0) }
     ensures same { IsTrue D.disk.tells → D.disk.reads disk.new ≡ D.disk.reads disk.old }
+    ensures counts { KeepsCounts (D.disk.faults disk.old) (D.disk.faults disk.new) (S.sink.faults out.old) (S.sink.faults out.new) }
+    ensures stops { IfErr result (IsHalt (OnlyChanged (IsTrue D.disk.tells → ⊥)) (Rose (D.disk.faults disk.old) (D.disk.faults disk.new)) (Rose (S.sink.faults out.old) (S.sink.faults out.new))) }
 {
     let count = read_piece(alloc, disk, path, at, buf)?;
     if !fits(size, at, count) {
@@ -117,9 +120,12 @@ pub(crate) fn give_content<D: TreeDisk, S: Sink>(
     buf: &mut [u8],
     out: &mut S,
 ) -> Result<(), Halt>
-    requires { IsTrue D.disk.tells → IsFileOf (D.disk.reads disk.old) path.now size }
+    requires file { IsTrue D.disk.tells → IsFileOf (D.disk.reads disk.old) path.now size }
+    requires room { 0 < length buf.old }
     ensures given { OnOk result (GivesContent D.disk.tells (D.disk.reads disk.old) path.now size (S.sink.written out.old) (S.sink.written out.new)) }
     ensures same { IsTrue D.disk.tells → D.disk.reads disk.new ≡ D.disk.reads disk.old }
+    ensures counts { KeepsCounts (D.disk.faults disk.old) (D.disk.faults disk.new) (S.sink.faults out.old) (S.sink.faults out.new) }
+    ensures stops { IfErr result (IsHalt (OnlyChanged (IsTrue D.disk.tells → ⊥)) (Rose (D.disk.faults disk.old) (D.disk.faults disk.new)) (Rose (S.sink.faults out.old) (S.sink.faults out.new))) }
 {
     let mut at = 0;
     'pieces: loop {

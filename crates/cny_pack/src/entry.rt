@@ -1,12 +1,15 @@
 //! Entries, with their contents.
-ghost use Rattle.std.specs.Prelude.{◌≡◌, ◌≤◌, Bool, List, All, IfOk, IsTrue, OnOk};
+ghost use Rattle.std.specs.Prelude.{◌≡◌, ◌<◌, ◌≤◌, length, Bool, List, All, IfErr, IfOk, IsTrue, OnOk};
+ghost use Rattle.tree_disk.specs.cny-base.Count.{Rose};
 ghost use Rattle.tree_disk.specs.cny-base.declared.limits.TheConstants.{CONTENT_LIMIT};
 ghost use Rattle.tree_disk.specs.Tree.{Tree};
 ghost use Rattle.tree_disk.specs.declared.disk.Look.TheVariants as look;
+ghost use Rattle.cny_pack.specs.Causes.{CannotEnter, IsFirstWithout, KeepsCounts};
 ghost use Rattle.cny_pack.specs.Entries as spec;
 ghost use Rattle.cny_pack.specs.Entries.{IsFileLine, IsFileOf, IsNamed, GivesEntry, GivesEntries};
 ghost use Rattle.cny_pack.specs.Gives.{GivesContentLine, GivesLink};
-ghost use Rattle.cny_pack.specs.Plan.{CanStand};
+ghost use Rattle.cny_pack.specs.Halts.{IsHalt, IsGivingStop, IsStopAt, Never, OnlyChanged, OnlyNoOwner};
+ghost use Rattle.cny_pack.specs.Plan.{CanStand, IsAsSeen};
 ghost use Rattle.cny_pack.specs.declared.pattern.Pattern.{Pattern};
 
 use crate::content::{check_file, give_content};
@@ -23,7 +26,8 @@ use tree_disk::{Look, TreeDisk};
 
 // The owner of what stands at a path.
 fn owner_of<O: Owners>(alloc: Global, owners: &mut O, path: &Path) -> Result<Owner, Halt>
-    ensures { IfOk result (IsNamed O.owns path.now) }
+    ensures named { IfOk result (IsNamed O.owns path.now) }
+    ensures stops { IfErr result (IsHalt (OnlyNoOwner (O.lacks path.now)) ⊥ ⊥) }
 {
     match owners.owner_at(alloc, path)? {
         Some(owner) => {
@@ -42,8 +46,10 @@ fn give_dir<O: Owners, S: Sink>(
     mode: Mode,
     out: &mut S,
 ) -> Result<(), Halt>
-    ensures { (config : List Pattern) (tells : Bool) (t : Tree)
+    ensures given { (config : List Pattern) (tells : Bool) (t : Tree)
         → OnOk result (GivesEntry O.owns config tells t path.now (look.Dir mode) (S.sink.written out.old) (S.sink.written out.new)) }
+    ensures later { S.sink.faults out.old ≤ S.sink.faults out.new }
+    ensures stops { IfErr result (IsHalt (OnlyNoOwner (O.lacks path.now)) ⊥ (Rose (S.sink.faults out.old) (S.sink.faults out.new))) }
 {
     let owner = owner_of(alloc, owners, path)?;
     let _path = path.text();
@@ -55,7 +61,9 @@ fn give_dir<O: Owners, S: Sink>(
 
 // Writes the entry of a link.
 fn give_link<S: Sink>(alloc: Global, path: &Path, target: &Target, out: &mut S) -> Result<(), Halt>
-    ensures { OnOk result (GivesLink path.now target.now (S.sink.written out.old) (S.sink.written out.new)) }
+    ensures given { OnOk result (GivesLink path.now target.now (S.sink.written out.old) (S.sink.written out.new)) }
+    ensures later { S.sink.faults out.old ≤ S.sink.faults out.new }
+    ensures stops { IfErr result (IsHalt Never ⊥ (Rose (S.sink.faults out.old) (S.sink.faults out.new))) }
 {
     let _path = path.text();
     let _target = target.text();
@@ -86,7 +94,8 @@ fn head_line<O: Owners>(
     mode: Mode,
     size: u64,
 ) -> Result<Bytes, Halt>
-    ensures { IfOk result (IsFileLine O.owns config.now path.now mode size) }
+    ensures line { IfOk result (IsFileLine O.owns config.now path.now mode size) }
+    ensures stops { IfErr result (IsHalt (OnlyNoOwner (O.lacks path.now)) ⊥ ⊥) }
 {
     let owner = owner_of(alloc, owners, path)?;
     let flags = flags_at(config, path);
@@ -104,9 +113,12 @@ fn give_bytes<D: TreeDisk, S: Sink>(
     buf: &mut [u8],
     out: &mut S,
 ) -> Result<(), Halt>
-    requires { IsTrue D.disk.tells → IsFileOf (D.disk.reads disk.old) path.now size }
+    requires file { IsTrue D.disk.tells → IsFileOf (D.disk.reads disk.old) path.now size }
+    requires room { 0 < length buf.old }
     ensures given { OnOk result (GivesContentLine D.disk.tells (D.disk.reads disk.old) path.now size (S.sink.written out.old) (S.sink.written out.new)) }
     ensures same { IsTrue D.disk.tells → D.disk.reads disk.new ≡ D.disk.reads disk.old }
+    ensures counts { KeepsCounts (D.disk.faults disk.old) (D.disk.faults disk.new) (S.sink.faults out.old) (S.sink.faults out.new) }
+    ensures stops { IfErr result (IsHalt (OnlyChanged (IsTrue D.disk.tells → ⊥)) (Rose (D.disk.faults disk.old) (D.disk.faults disk.new)) (Rose (S.sink.faults out.old) (S.sink.faults out.new))) }
 {
     give_content(alloc, disk, path, size, buf, out)?;
     out.give(b"\n")?;
@@ -125,9 +137,13 @@ fn give_file<D: TreeDisk, O: Owners, S: Sink>(
     buf: &mut [u8],
     out: &mut S,
 ) -> Result<(), Halt>
-    requires { size ≤ CONTENT_LIMIT }
+    requires small { size ≤ CONTENT_LIMIT }
+    requires file { IsTrue D.disk.tells → IsFileOf (D.disk.reads disk.old) path.now size }
+    requires room { 0 < length buf.old }
     ensures given { OnOk result (GivesEntry O.owns config.now D.disk.tells (D.disk.reads disk.old) path.now (look.File mode size) (S.sink.written out.old) (S.sink.written out.new)) }
     ensures same { IsTrue D.disk.tells → D.disk.reads disk.new ≡ D.disk.reads disk.old }
+    ensures counts { KeepsCounts (D.disk.faults disk.old) (D.disk.faults disk.new) (S.sink.faults out.old) (S.sink.faults out.new) }
+    ensures stops { IfErr result (IsHalt (CannotEnter O.lacks D.disk.tells path.now (look.File mode size)) (Rose (D.disk.faults disk.old) (D.disk.faults disk.new)) (Rose (S.sink.faults out.old) (S.sink.faults out.new))) }
 {
     check_file(alloc, disk, path, size)?;
     let line = head_line(alloc, owners, config, path, mode, size)?;
@@ -146,9 +162,13 @@ fn give_entry<D: TreeDisk, O: Owners, S: Sink>(
     buf: &mut [u8],
     out: &mut S,
 ) -> Result<(), Halt>
-    requires { CanStand sight.now }
+    requires can { CanStand sight.now }
+    requires seen { IsTrue D.disk.tells → IsAsSeen (D.disk.reads disk.old) sight.now }
+    requires room { 0 < length buf.old }
     ensures given { OnOk result (GivesEntry O.owns config.now D.disk.tells (D.disk.reads disk.old) sight.now.path sight.now.look (S.sink.written out.old) (S.sink.written out.new)) }
     ensures same { IsTrue D.disk.tells → D.disk.reads disk.new ≡ D.disk.reads disk.old }
+    ensures counts { KeepsCounts (D.disk.faults disk.old) (D.disk.faults disk.new) (S.sink.faults out.old) (S.sink.faults out.new) }
+    ensures stops { IfErr result (IsHalt (CannotEnter O.lacks D.disk.tells sight.now.path sight.now.look) (Rose (D.disk.faults disk.old) (D.disk.faults disk.new)) (Rose (S.sink.faults out.old) (S.sink.faults out.new))) }
 {
     let path = &sight.path;
     match &sight.look {
@@ -162,7 +182,9 @@ fn give_entry<D: TreeDisk, O: Owners, S: Sink>(
 }
 
 // What an entry that isn't written makes of the whole.
-fn stop_at(path: &Path, halt: Halt) -> PackStop {
+fn stop_at(path: &Path, halt: Halt) -> PackStop
+    ensures { IsStopAt path.now halt result }
+{
     match halt {
         Halt::DiskFailed => PackStop::DiskFailed,
         Halt::SinkFailed => PackStop::SinkFailed,
@@ -184,9 +206,13 @@ pub(crate) fn give_entries<D: TreeDisk, O: Owners, S: Sink>(
     buf: &mut [u8],
     out: &mut S,
 ) -> Result<(), PackStop>
-    requires { All CanStand sights.now }
+    requires can { All CanStand sights.now }
+    requires seen { IsTrue D.disk.tells → All (IsAsSeen (D.disk.reads disk.old)) sights.now }
+    requires room { 0 < length buf.old }
     ensures given { OnOk result (GivesEntries O.owns config.now D.disk.tells (D.disk.reads disk.old) sights.now (S.sink.written out.old) (S.sink.written out.new)) }
     ensures same { IsTrue D.disk.tells → D.disk.reads disk.new ≡ D.disk.reads disk.old }
+    ensures counts { KeepsCounts (D.disk.faults disk.old) (D.disk.faults disk.new) (S.sink.faults out.old) (S.sink.faults out.new) }
+    ensures stops { IfErr result (IsGivingStop (IsFirstWithout O.owns O.lacks config.now D.disk.tells (D.disk.reads disk.old) sights.now) (Rose (D.disk.faults disk.old) (D.disk.faults disk.new)) (Rose (S.sink.faults out.old) (S.sink.faults out.new))) }
 {
     for sight in sights {
         match give_entry(alloc, disk, owners, config, sight, buf, out) {

@@ -1,12 +1,18 @@
 //! The lines in front of the entries.
-ghost use Rattle.std.specs.Prelude.{◌≡◌, ◌∷◌, [], ◌++◌, false, IfOk, IsTrue, OnOk};
+ghost use Rattle.std.specs.Prelude.{◌≡◌, ℕ, ◌∷◌, [], ◌++◌, false, All, Contains, IfErr, IfOk, IsTrue, List, OnOk};
+ghost use Rattle.cny_dep.specs.Dep.{Dependency};
 ghost use Rattle.cny_flavor.specs.Spelling.{IsRelaxedText};
+ghost use Rattle.cny_flavor.specs.declared.parts.Parts.{Parts};
+ghost use Rattle.cny_version.specs.Version.{WholeVersion};
 ghost use Rattle.manifest_troves.specs.cny-base.Name.{is_name, kind_of_name};
-ghost use Rattle.manifest_troves.specs.trove-stream.Trove.{begins_with_colon, is_component_of};
 ghost use Rattle.cny_manifest.specs.Body.{is_own_by, is_group_kind};
-ghost use Rattle.cny_manifest.specs.Grammar.{kind_word, IsDepField, IsVersionField};
+ghost use Rattle.cny_manifest.specs.Grammar.{kind_word, IsDepField, IsLine, IsVersionField};
 ghost use Rattle.cny_manifest.specs.Spelling.{IsOwnLine};
-ghost use Rattle.cny_pack.specs.Head.{AddsLine, AddsName, AddsVersion, AddsFlavor, AddsFlavorPart, AddsId, AddsDep, AddsDeps, AreDeps, SaysDep, dep_line_of, IsHead};
+ghost use Rattle.cny_pack.specs.Causes.{CanName, CanVersion, CanFlavor, CanFlavorPart, CanId, CanOwn, CanDep, HasBadDep, AreGood};
+ghost use Rattle.cny_pack.specs.Halts as halts;
+ghost use Rattle.cny_pack.specs.Halts.{IsUnread, IsHeadStop};
+ghost use Rattle.cny_pack.specs.declared.head.DepWords.{DepWords};
+ghost use Rattle.cny_pack.specs.Head.{AddsLine, AddsName, AddsVersion, AddsFlavor, AddsFlavorPart, AddsId, AddsDep, AddsDeps, AddsGiven, AreDeps, HasLine, SaysDep, dep_line_of, IsHead};
 
 use crate::lines::is_line;
 use crate::stop::{BadWord, PackStop};
@@ -14,6 +20,7 @@ use cny_dep::Dep;
 use cny_flavor::Flavor;
 use cny_version::Version;
 use manifest_troves::trove_parts::TroveId;
+use manifest_troves::trove_stream::is_component_of;
 use manifest_troves::{DepLine, DepLines};
 use std::alloc::Global;
 use std::collections::BTreeSet;
@@ -52,8 +59,10 @@ pub(crate) struct Head {
     pub(crate) provides: DepLines,
 }
 
-// What a word that isn't read makes of the whole.
-fn unread(fault: TextFault, word: BadWord) -> PackStop {
+// What a word that isn't read makes of it all.
+fn unread(fault: TextFault, word: BadWord) -> PackStop
+    ensures { result ≡ halts.unread fault word }
+{
     match fault {
         TextFault::Bad => PackStop::Word(word),
         TextFault::Memory => PackStop::Memory,
@@ -62,7 +71,8 @@ fn unread(fault: TextFault, word: BadWord) -> PackStop {
 
 // Appends a line and its line feed.
 fn push_line(text: &mut Bytes, line: Bytes, word: BadWord) -> Result<(), PackStop>
-    ensures { OnOk result (AddsLine line text.old text.new) }
+    ensures added { OnOk result (AddsLine line text.old text.new) }
+    ensures refused { IfErr result (IsUnread word (IsLine line → ⊥)) }
 {
     if !is_line(line.get()) {
         return Err(PackStop::Word(word));
@@ -75,6 +85,7 @@ fn push_line(text: &mut Bytes, line: Bytes, word: BadWord) -> Result<(), PackSto
 fn kind_front(name: &Name) -> Result<&'static [u8], PackStop>
     ensures front { IfOk result (λ front. front.now ≡ kind_word (kind_of_name name.now) ++ 32 ∷ []) }
     ensures no_group { OnOk result (is_group_kind (kind_of_name name.now) ≡ false) }
+    ensures refused { IfErr result (IsUnread BadWord.Name (is_group_kind (kind_of_name name.now) ≡ false → ⊥)) }
 {
     match name.kind() {
         NameKind::Component => Ok(b"component "),
@@ -87,6 +98,7 @@ fn kind_front(name: &Name) -> Result<&'static [u8], PackStop>
 fn name_of(alloc: Global, text: &str, word: BadWord) -> Result<Name, PackStop>
     ensures value { IfOk result (λ name. name ≡ text.now) }
     ensures named { OnOk result (IsTrue (is_name text.now)) }
+    ensures refused { IfErr result (IsUnread word (IsTrue (is_name text.now) → ⊥)) }
 {
     match Name::read(alloc, text) {
         Ok(name) => Ok(name),
@@ -96,7 +108,8 @@ fn name_of(alloc: Global, text: &str, word: BadWord) -> Result<Name, PackStop>
 
 // The version with this text.
 fn version_of(alloc: Global, text: &str) -> Result<Version, PackStop>
-    ensures { IfOk result (IsVersionField text.now) }
+    ensures is { IfOk result (IsVersionField text.now) }
+    ensures refused { IfErr result (IsUnread BadWord.Version ((version : WholeVersion) → IsVersionField text.now version → ⊥)) }
 {
     match Version::read(alloc, text) {
         Ok(version) => Ok(version),
@@ -106,7 +119,9 @@ fn version_of(alloc: Global, text: &str) -> Result<Version, PackStop>
 
 // The flavor with this text.
 fn flavor_of(alloc: Global, text: &str) -> Result<Flavor, PackStop>
-    ensures { IfOk result (IsRelaxedText text.now) }
+    ensures is { IfOk result (IsRelaxedText text.now) }
+    ensures only { IfOk result (λ flavor. (parts : Parts) → IsRelaxedText text.now parts → flavor ≡ parts) }
+    ensures refused { IfErr result (IsUnread BadWord.Flavor ((parts : Parts) → IsRelaxedText text.now parts → ⊥)) }
 {
     match Flavor::read(alloc, text) {
         Ok(flavor) => Ok(flavor),
@@ -116,7 +131,8 @@ fn flavor_of(alloc: Global, text: &str) -> Result<Flavor, PackStop>
 
 // The dependency with this text.
 fn dep_of(alloc: Global, text: &str, word: BadWord) -> Result<Dep, PackStop>
-    ensures { IfOk result (IsDepField text.now) }
+    ensures is { IfOk result (IsDepField text.now) }
+    ensures refused { IfErr result (IsUnread word ((dep : Dependency) → IsDepField text.now dep → ⊥)) }
 {
     match Dep::read(alloc, text) {
         Ok(dep) => Ok(dep),
@@ -126,7 +142,8 @@ fn dep_of(alloc: Global, text: &str, word: BadWord) -> Result<Dep, PackStop>
 
 // The name of a component or a package, and its line.
 fn push_name(alloc: Global, text: &mut Bytes, word: &str) -> Result<Name, PackStop>
-    ensures { IfOk result (AddsName word.now text.old text.new) }
+    ensures added { IfOk result (AddsName word.now text.old text.new) }
+    ensures refused { IfErr result (IsUnread BadWord.Name (CanName word.now → ⊥)) }
 {
     let name = name_of(alloc, word, BadWord::Name)?;
     let mut line = Bytes::new(alloc, kind_front(&name)?)?;
@@ -136,7 +153,8 @@ fn push_name(alloc: Global, text: &mut Bytes, word: &str) -> Result<Name, PackSt
 }
 
 fn push_version(alloc: Global, text: &mut Bytes, word: &str) -> Result<Version, PackStop>
-    ensures { IfOk result (AddsVersion word.now text.old text.new) }
+    ensures added { IfOk result (AddsVersion word.now text.old text.new) }
+    ensures refused { IfErr result (IsUnread BadWord.Version (CanVersion word.now → ⊥)) }
 {
     let version = version_of(alloc, word)?;
     let mut line = Bytes::new(alloc, b"version ")?;
@@ -147,7 +165,8 @@ fn push_version(alloc: Global, text: &mut Bytes, word: &str) -> Result<Version, 
 
 // The flavor that was given, and its line. It isn't empty.
 fn push_flavor(alloc: Global, text: &mut Bytes, word: &str) -> Result<Flavor, PackStop>
-    ensures { IfOk result (AddsFlavor word.now text.old text.new) }
+    ensures added { IfOk result (AddsFlavor word.now text.old text.new) }
+    ensures refused { IfErr result (IsUnread BadWord.Flavor (CanFlavor word.now → ⊥)) }
 {
     let flavor = flavor_of(alloc, word)?;
     if flavor.text().is_empty() {
@@ -161,7 +180,9 @@ fn push_flavor(alloc: Global, text: &mut Bytes, word: &str) -> Result<Flavor, Pa
 
 // The flavor, and its line; no line where none was given.
 fn push_flavor_part(alloc: Global, text: &mut Bytes, word: Option<&str>) -> Result<Flavor, PackStop>
-    ensures { IfOk result (AddsFlavorPart word.entry text.old text.new) }
+    ensures added { IfOk result (AddsFlavorPart word.entry text.old text.new) }
+    ensures can { OnOk result (CanFlavorPart word.entry) }
+    ensures refused { IfErr result (IsUnread BadWord.Flavor (CanFlavorPart word.entry → ⊥)) }
 {
     match word {
         None => Ok(Flavor::empty(alloc)?),
@@ -171,7 +192,9 @@ fn push_flavor_part(alloc: Global, text: &mut Bytes, word: Option<&str>) -> Resu
 
 // The first lines, up to that of the flavor.
 fn push_id(alloc: Global, text: &mut Bytes, words: Words<'_>) -> Result<TroveId, PackStop>
-    ensures { IfOk result (AddsId words.entry text.old text.new) }
+    ensures added { IfOk result (AddsId words.entry text.old text.new) }
+    ensures can { OnOk result (CanId words.entry) }
+    ensures refused { IfErr result (IsHeadStop words.entry) }
 {
     let name = push_name(alloc, text, words.name)?;
     let version = push_version(alloc, text, words.version)?;
@@ -181,25 +204,6 @@ fn push_id(alloc: Global, text: &mut Bytes, words: Words<'_>) -> Result<TroveId,
         version,
         flavor,
     })
-}
-
-fn begins_with_colon(bytes: &[u8]) -> bool
-    ensures { result ≡ begins_with_colon bytes.now }
-{
-    match bytes {
-        [] => false,
-        [first, ..] => *first == b':',
-    }
-}
-
-// Whether the name is the package's, a colon and more.
-fn is_component_of(whole: &[u8], name: &[u8]) -> bool
-    ensures { result ≡ is_component_of whole.now name.now }
-{
-    match name.strip_prefix(whole) {
-        None => false,
-        Some(rest) => begins_with_colon(rest),
-    }
 }
 
 // Whether the component is the one of the manifest, or one of its package.
@@ -222,6 +226,7 @@ fn own_dep(
 ) -> Result<(Name, Dep), PackStop>
     ensures says { IfOk result (λ pair. SaysDep words.entry (dep_line_of pair)) }
     ensures own { IfOk result (λ pair. IsOwnLine whole.now (dep_line_of pair)) }
+    ensures refused { IfErr result (IsUnread word (CanOwn whole.now words.entry → ⊥)) }
 {
     let name = name_of(alloc, words.component, word)?;
     let dep = dep_of(alloc, words.dep, word)?;
@@ -238,7 +243,8 @@ fn own_deps(
     given: &[DepWords<'_>],
     word: BadWord,
 ) -> Result<DepSet, PackStop>
-    ensures { IfOk result (λ deps. AreDeps whole.now given.now deps.keys) }
+    ensures are { IfOk result (λ deps. AreDeps whole.now given.now deps.keys) }
+    ensures refused { IfErr result (IsUnread word ((words : DepWords) × Contains given.now words × (CanOwn whole.now words → ⊥))) }
 {
     let mut deps = BTreeSet::new(alloc);
     for words in given {
@@ -256,7 +262,8 @@ fn push_dep(
     dep: &Dep,
     word: BadWord,
 ) -> Result<(), PackStop>
-    ensures { OnOk result (AddsDep front.now (record { name = name.now; dep = dep.now }) text.old text.new) }
+    ensures added { OnOk result (AddsDep front.now (record { name = name.now; dep = dep.now }) text.old text.new) }
+    ensures refused { IfErr result (IsUnread word (HasLine front.now (record { name = name.now; dep = dep.now }) → ⊥)) }
 {
     let mut line = Bytes::new(alloc, front)?;
     line.push_slice(b" ")?;
@@ -275,7 +282,8 @@ fn push_deps(
     deps: DepSet,
     word: BadWord,
 ) -> Result<DepLines, PackStop>
-    ensures { IfOk result (λ lines. AddsDeps front.now deps.keys text.old text.new lines) }
+    ensures added { IfOk result (λ lines. AddsDeps front.now deps.keys text.old text.new lines) }
+    ensures refused { IfErr result (IsUnread word ((pair : List ℕ × Dependency) × Contains deps.keys pair × (HasLine front.now (dep_line_of pair) → ⊥))) }
 {
     let mut lines = Vec::new(alloc);
     for (name, dep) in deps {
@@ -285,16 +293,47 @@ fn push_deps(
     Ok(DepLines::new(lines))
 }
 
-/// The lines in front of the entries that these words give.
+// The given of one kind, and their lines.
+fn push_given(
+    alloc: Global,
+    text: &mut Bytes,
+    whole: &Name,
+    front: &[u8],
+    given: &[DepWords<'_>],
+    word: BadWord,
+) -> Result<DepLines, PackStop>
+    ensures added { IfOk result (AddsGiven whole.now front.now given.now text.old text.new) }
+    ensures can { OnOk result (All (CanDep front.now whole.now) given.now) }
+    ensures refused { IfErr result (IsUnread word (HasBadDep front.now whole.now given.now)) }
+{
+    let deps = own_deps(alloc, whole, given, word)?;
+    push_deps(alloc, text, front, deps, word)
+}
+
+/// The lines in front of the entries that these words give. Refused just where one of the words can't stand there: the first such.
 pub(crate) fn head_of(alloc: Global, words: Words<'_>) -> Result<Head, PackStop>
-    ensures { IfOk result (IsHead words.entry) }
+    ensures head { IfOk result (IsHead words.entry) }
+    ensures good { OnOk result (AreGood words.entry) }
+    ensures refused { IfErr result (IsHeadStop words.entry) }
 {
     let mut text = Bytes::new(alloc, b"manifest 2\n")?;
     let id = push_id(alloc, &mut text, words)?;
-    let required = own_deps(alloc, &id.name, words.requires_, BadWord::Requires)?;
-    let provided = own_deps(alloc, &id.name, words.provides, BadWord::Provides)?;
-    let requires_ = push_deps(alloc, &mut text, b"requires", required, BadWord::Requires)?;
-    let provides = push_deps(alloc, &mut text, b"provides", provided, BadWord::Provides)?;
+    let requires_ = push_given(
+        alloc,
+        &mut text,
+        &id.name,
+        b"requires",
+        words.requires_,
+        BadWord::Requires,
+    )?;
+    let provides = push_given(
+        alloc,
+        &mut text,
+        &id.name,
+        b"provides",
+        words.provides,
+        BadWord::Provides,
+    )?;
     Ok(Head {
         text,
         id,

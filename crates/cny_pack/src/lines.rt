@@ -1,11 +1,13 @@
 //! The lines of entries.
-ghost use Rattle.std.specs.Prelude.{◌≡◌, ◌++◌, ◌∷◌, [], true, IfOk, IsTrue, OnOk};
+ghost use Rattle.std.specs.Prelude.{◌≡◌, ◌≤◌, ◌++◌, ◌∷◌, [], true, IfErr, IfOk, IsTrue, OnOk};
 ghost use Rattle.cny_manifest.specs.Grammar.{IsLine};
 ghost use Rattle.cny_manifest.specs.Spelling as spec;
 ghost use Rattle.cny_pack.specs.Gives.{GivesLine};
+ghost use Rattle.cny_pack.specs.Halts.{IsHalt, Never};
+ghost use Rattle.tree_disk.specs.cny-base.Count.{Rose};
 ghost use Rattle.tree_disk.specs.cny-base.Number.{octal_text};
 
-use crate::stop::{Halt, Unfit};
+use crate::stop::Halt;
 use cny_flow::Sink;
 use manifest_troves::file_stream::{Flags, Owner};
 use std::alloc::Global;
@@ -16,7 +18,8 @@ const LINE_ROOM: usize = 2049;
 
 /// Whether the bytes can be a line: they are few enough, and none of them is a line feed.
 pub(crate) fn is_line(text: &[u8]) -> bool
-    ensures { IsTrue result → IsLine text.now }
+    ensures line { IsTrue result → IsLine text.now }
+    ensures all { IsLine text.now → IsTrue result }
 {
     text.len() < LINE_ROOM && !text.contains(&b'\n')
 }
@@ -108,11 +111,11 @@ pub(crate) fn target_line(alloc: Global, target: &Target) -> Result<Bytes, OutOf
 
 /// Writes a line and the line feed behind it.
 pub(crate) fn give_line<S: Sink>(out: &mut S, line: Bytes) -> Result<(), Halt>
-    ensures { OnOk result (GivesLine line (S.sink.written out.old) (S.sink.written out.new)) }
+    requires { IsLine line }
+    ensures given { OnOk result (GivesLine line (S.sink.written out.old) (S.sink.written out.new)) }
+    ensures later { S.sink.faults out.old ≤ S.sink.faults out.new }
+    ensures stops { IfErr result (IsHalt Never ⊥ (Rose (S.sink.faults out.old) (S.sink.faults out.new))) }
 {
-    if !is_line(line.get()) {
-        return Err(Halt::Unfit(Unfit::LongLine));
-    }
     let mut line = line;
     line.push_slice(b"\n")?;
     out.give(line.get())?;

@@ -1,9 +1,12 @@
 //! The manifest of what stands in a directory.
-ghost use Rattle.std.specs.Prelude.{◌≡◌, All, IfOk, IsTrue, OnOk};
+ghost use Rattle.std.specs.Prelude.{◌≡◌, ◌≤◌, All, IfErr, IfOk, IsTrue, OnOk};
 ghost use Rattle.std.specs.Io.KnownBytes.{Appends};
+ghost use Rattle.tree_disk.specs.cny-base.Count.{Rose};
+ghost use Rattle.cny_pack.specs.Causes.{IfJudged, IsCause, IsFirstWithout, KeepsCounts};
 ghost use Rattle.cny_pack.specs.Entries.{GivesAll};
+ghost use Rattle.cny_pack.specs.Halts.{IsGivingStop, IsLookStop};
 ghost use Rattle.cny_pack.specs.Packs.{WritesPack};
-ghost use Rattle.cny_pack.specs.Plan.{CanStand};
+ghost use Rattle.cny_pack.specs.Plan.{CanStand, IsAsSeen};
 ghost use Rattle.cny_pack.specs.Walk.{FindsAll};
 
 use crate::entry::give_entries;
@@ -20,7 +23,9 @@ use tree_disk::cny_base::Bytes;
 use tree_disk::{PIECE, TreeDisk};
 
 fn give<S: Sink>(out: &mut S, bytes: &[u8]) -> Result<(), PackStop>
-    ensures { OnOk result (Appends (S.sink.written out.old) (S.sink.written out.new) bytes.now) }
+    ensures given { OnOk result (Appends (S.sink.written out.old) (S.sink.written out.new) bytes.now) }
+    ensures later { S.sink.faults out.old ≤ S.sink.faults out.new }
+    ensures stops { IfErr result (IsGivingStop (λ path why. ⊥) ⊥ (Rose (S.sink.faults out.old) (S.sink.faults out.new))) }
 {
     match out.give(bytes) {
         Ok(()) => Ok(()),
@@ -39,9 +44,12 @@ fn give_all<D: TreeDisk, O: Owners, S: Sink>(
     sights: &[Sight],
     out: &mut S,
 ) -> Result<(), PackStop>
-    requires { All CanStand sights.now }
+    requires can { All CanStand sights.now }
+    requires seen { IsTrue D.disk.tells → All (IsAsSeen (D.disk.reads disk.old)) sights.now }
     ensures given { OnOk result (GivesAll O.owns config.now D.disk.tells (D.disk.reads disk.old) text.now sights.now (S.sink.written out.old) (S.sink.written out.new)) }
     ensures same { IsTrue D.disk.tells → D.disk.reads disk.new ≡ D.disk.reads disk.old }
+    ensures counts { KeepsCounts (D.disk.faults disk.old) (D.disk.faults disk.new) (S.sink.faults out.old) (S.sink.faults out.new) }
+    ensures stops { IfErr result (IsGivingStop (IsFirstWithout O.owns O.lacks config.now D.disk.tells (D.disk.reads disk.old) sights.now) (Rose (D.disk.faults disk.old) (D.disk.faults disk.new)) (Rose (S.sink.faults out.old) (S.sink.faults out.new))) }
 {
     let mut buf = vec![in alloc; 0u8; PIECE]?;
     give(out, text.get())?;
@@ -54,6 +62,8 @@ fn give_all<D: TreeDisk, O: Owners, S: Sink>(
 fn find<D: TreeDisk>(alloc: Global, disk: &mut D) -> Result<Seen, PackStop>
     ensures found { IsTrue D.disk.tells → IfOk result (FindsAll (D.disk.reads disk.old)) }
     ensures same { IsTrue D.disk.tells → D.disk.reads disk.new ≡ D.disk.reads disk.old }
+    ensures later { D.disk.faults disk.old ≤ D.disk.faults disk.new }
+    ensures stops { IfErr result (IsLookStop (Rose (D.disk.faults disk.old) (D.disk.faults disk.new))) }
 {
     match find_all(alloc, disk) {
         Ok(seen) => Ok(seen),
@@ -62,10 +72,8 @@ fn find<D: TreeDisk>(alloc: Global, disk: &mut D) -> Result<Seen, PackStop>
 }
 
 /// Writes the manifest of what stands on the disk, but for `/` itself: the lines that the words give, an entry for each path in the
-/// order of paths, files with their contents, and the line `end`. The contents are read in pieces, at most 65,536 bytes at once.
-///
-/// All is looked at, and the lines and the entries are judged, before the first byte is written. A file that has another size
-/// when it is read than when it was looked at is refused as changed.
+/// order of paths, files with their contents, and the line `end`. Words, what stands in the tree, and the troves are judged before that,
+/// in this order. What was written before an entry stops it lacks its end.
 pub fn write_manifest<D: TreeDisk, O: Owners, S: Sink>(
     alloc: Global,
     disk: &mut D,
@@ -76,21 +84,19 @@ pub fn write_manifest<D: TreeDisk, O: Owners, S: Sink>(
 ) -> Result<(), PackStop>
     // A manifest was written: of a disk that tells its tree that of its nodes.
     ensures written { OnOk result (WritesPack O.owns rules.entry D.disk.tells (D.disk.reads disk.old) words.entry (S.sink.written out.old) (S.sink.written out.new)) }
-    // The disk stays as it was.
+    // Why none was.
+    ensures cause { IfErr result (IsCause O.owns O.lacks rules.entry D.disk.tells (D.disk.reads disk.old) words.entry (Rose (D.disk.faults disk.old) (D.disk.faults disk.new)) (Rose (S.sink.faults out.old) (S.sink.faults out.new))) }
+    // Nothing was written where words, what stands at a path, or troves are refused.
+    ensures unwritten { IfErr result (IfJudged (out.new ≡ out.old)) }
+    // The disk stays as it was, and no count of faults falls.
     ensures same { IsTrue D.disk.tells → D.disk.reads disk.new ≡ D.disk.reads disk.old }
+    ensures counts { KeepsCounts (D.disk.faults disk.old) (D.disk.faults disk.new) (S.sink.faults out.old) (S.sink.faults out.new) }
 {
     let head = head_of(alloc, words)?;
     let seen = find(alloc, disk)?;
-    let sights = plan(alloc, seen, rules.skip)?;
-    let text = judge(alloc, head, sights.as_slice())?;
-    give_all(
-        alloc,
-        disk,
-        owners,
-        rules.config,
-        &text,
-        sights.as_slice(),
-        out,
-    )?;
+    let planned = plan(alloc, seen, rules.skip)?;
+    let sights = planned.as_slice();
+    let text = judge(alloc, head, sights)?;
+    give_all(alloc, disk, owners, rules.config, &text, sights, out)?;
     Ok(())
 }

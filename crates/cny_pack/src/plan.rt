@@ -4,7 +4,8 @@ ghost use Rattle.std.specs.BTreeMap.{IsOrdered};
 ghost use Rattle.std.specs.Cmp.Lexicographic.{slice_cmp};
 ghost use Rattle.std.specs.Ordering.{nat_cmp};
 ghost use Rattle.cny_pack.specs.Plan as spec;
-ghost use Rattle.cny_pack.specs.Plan.{IsFit, RefusesOne, RefusesOf};
+ghost use Rattle.cny_pack.specs.Halts.{RefusesFirst};
+ghost use Rattle.cny_pack.specs.Plan.{IsFit, RefusesOne};
 
 use crate::pattern::Pattern;
 use crate::stop::{PackStop, Unfit};
@@ -64,7 +65,7 @@ fn add(sights: &mut Vec<Sight>, path: Path, look: Look, skip: bool) -> Result<()
 pub(crate) fn plan(alloc: Global, seen: Seen, skip: bool) -> Result<Vec<Sight>, PackStop>
     ensures planned { IfOk result (λ sights. sights.items ≡ spec.sights_of seen.entries) }
     ensures fit { skip ≡ false → OnOk result (All IsFit seen.entries) }
-    ensures refused { IfErr result (RefusesOf seen.entries skip) }
+    ensures refused { IfErr result (RefusesFirst seen.entries skip) }
     ensures ordered { IsOrdered (slice_cmp nat_cmp) seen }
 {
     let mut sights = Vec::new(alloc);

@@ -30,8 +30,6 @@ pub enum Unfit {
     Reserved,
     /// The file has another size now than when it was looked at.
     Changed,
-    /// Its line would be too long.
-    LongLine,
     /// Nobody tells who owns it.
     NoOwner,
 }
@@ -91,22 +89,6 @@ impl From<OutOfMemory> for Halt {
     ghost from_gives = { λ _ e. e ≡ halt.Memory };
 
     fn from(_: OutOfMemory) -> Self {
-        Halt::Memory
-    }
-}
-
-impl From<AllocError> for Halt {
-    ghost from_gives = { λ _ e. e ≡ halt.Memory };
-
-    fn from(_: AllocError) -> Self {
-        Halt::Memory
-    }
-}
-
-impl<T: Drop> From<AllocFailed<T>> for Halt {
-    ghost from_gives = { λ _ e. e ≡ halt.Memory };
-
-    fn from(_: AllocFailed<T>) -> Self {
         Halt::Memory
     }
 }

@@ -75,12 +75,13 @@ impl<T: Drop> From<AllocFailed<T>> for Stop {
     }
 }
 
-// The file that is read, and the place where its next read begins.
+// The file that is read, the place where its next read begins, and whether the last read came to its end.
 #[derive(Drop)]
 struct Reader {
     path: String,
     file: File,
     at: u64,
+    ended: bool,
 }
 
 /// What the host told last that can't be in a tree, and where.
@@ -290,7 +291,12 @@ impl<'a> HostDir<'a> {
         let place = self.place(alloc, path)?;
         let file = fs::open(self.rt, place.as_str())?;
         let path = String::from_str(alloc, path.text())?;
-        self.reader = Some(Reader { path, file, at: 0 });
+        self.reader = Some(Reader {
+            path,
+            file,
+            at: 0,
+            ended: false,
+        });
         Ok(())
     }
 
@@ -305,9 +311,12 @@ impl<'a> HostDir<'a> {
         };
         if reader.at != at {
             reader.file.seek(SeekFrom::Start(at))?;
+        } else if reader.ended {
+            return Ok(0);
         }
         let count = fill(&mut reader.file, buf)?;
         reader.at = at.saturating_add(count as u64);
+        reader.ended = count < buf.len();
         Ok(count)
     }
 

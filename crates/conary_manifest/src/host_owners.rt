@@ -1,12 +1,15 @@
 // Who owns what stands in a directory of the host.
 use cny_pack::Owners;
-use cny_pack::cny_base::{OutOfMemory, Path, TextFault};
+use cny_pack::cny_base::{OutOfMemory, Path, TextFault, is_word};
 use cny_pack::file_stream::Owner;
 use std::alloc::Global;
 use std::collections::BTreeMap;
 use std::fs::{self, Files, Metadata};
 use std::io::{self, ErrorKind};
 use std::os::unix::fs::MetadataExt;
+
+// The most bytes that the name of a user or a group may have.
+const OWNER_ROOM: usize = 32;
 
 // Names by their numbers.
 type Names = BTreeMap<u32, String>;
@@ -43,7 +46,8 @@ fn names_of(rt: &HostRuntime, file: &str) -> Result<Names, OutOfMemory> {
     }
 }
 
-/// The owners in a directory of the host, by the names that the host gives to their numbers, and by the numbers where it gives none.
+/// The owners in a directory of the host, by the names that the host gives to their numbers, and by the numbers where it gives none that
+/// an owner may have.
 #[derive(Drop)]
 pub(crate) struct HostOwners<'a> {
     rt: &'a HostRuntime,
@@ -69,15 +73,20 @@ impl<'a> HostOwners<'a> {
     }
 }
 
+// Whether a user or a group of a manifest may have this name.
+fn can_own(name: &str) -> bool {
+    name.len() <= OWNER_ROOM && is_word(name.as_bytes())
+}
+
 // The name of a number, or the number itself.
 fn word_of(alloc: Global, names: &Names, number: u32) -> Result<String, OutOfMemory> {
     match names.get(&number) {
-        Some(name) => Ok(String::from_str(alloc, name.as_str())?),
-        None => Ok(format!(in alloc; "{number}")?),
+        Some(name) if can_own(name.as_str()) => Ok(String::from_str(alloc, name.as_str())?),
+        _ => Ok(format!(in alloc; "{number}")?),
     }
 }
 
-// The owner of these numbers, by the name of each or else by the number; none where a name is no word of at most 32 bytes.
+// The owner of these numbers.
 fn owner_of(
     alloc: Global,
     users: &Names,
@@ -96,6 +105,8 @@ fn owner_of(
 
 impl Owners for HostOwners<'_> {
     ghost owns = { λ path owner. Unit {0} };
+
+    ghost lacks = { λ path. Unit {0} };
 
     fn owner_at(&mut self, alloc: Global, path: &Path) -> Result<Option<Owner>, OutOfMemory> {
         match self.metadata(alloc, path)? {

@@ -3,6 +3,7 @@
 #![tactic(auto)]
 
 mod host_dir;
+mod host_out;
 mod host_owners;
 mod said;
 mod start;

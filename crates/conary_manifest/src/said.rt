@@ -63,7 +63,6 @@ fn unfit(alloc: Global, path: &Path, why: Unfit) -> Result<Said, OutOfMemory> {
         Unfit::TooLarge { size } => format!(in alloc; "too large {path} {size}")?,
         Unfit::Reserved => format!(in alloc; "reserved {path}")?,
         Unfit::Changed => format!(in alloc; "changed {path}")?,
-        Unfit::LongLine => format!(in alloc; "long line {path}")?,
         Unfit::NoOwner => format!(in alloc; "no owner {path}")?,
     };
     said_so(alloc, REFUSED, what.as_str())

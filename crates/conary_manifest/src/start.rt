@@ -1,10 +1,11 @@
 // What the program does: it hands its words, a directory of the host and standard output to the library.
 use crate::host_dir::HostDir;
+use crate::host_out::HostOut;
 use crate::host_owners::HostOwners;
 use crate::said::{OK, OUT_OF_MEMORY, Said, told, usage};
 use crate::words::{Request, read_words};
 use cny_pack::cny_base::{OutOfMemory, TextFault};
-use cny_pack::cny_flow::{Sink, StdSink};
+use cny_pack::cny_flow::{FlowFault, Sink, StdSink};
 use cny_pack::{PackStop, Rules, Words, write_manifest};
 use std::env;
 use std::io::ErrorKind;
@@ -58,7 +59,7 @@ fn start_words(rt: &HostRuntime) -> Result<u8, OutOfMemory> {
 // Writes the manifest of the directory.
 fn write(rt: &HostRuntime, request: &Request<'_>, disk: &mut HostDir<'_>) -> Result<(), PackStop> {
     let mut owners = HostOwners::new(rt, request.dir)?;
-    let mut out = StdSink::new(rt.stdout());
+    let mut out = HostOut::new(rt.alloc(), rt.stdout());
     let words = Words {
         name: request.name,
         version: request.version,
@@ -70,7 +71,12 @@ fn write(rt: &HostRuntime, request: &Request<'_>, disk: &mut HostDir<'_>) -> Res
         config: request.config.as_slice(),
         skip: request.skip,
     };
-    write_manifest(rt.alloc(), disk, &mut owners, words, rules, &mut out)
+    write_manifest(rt.alloc(), disk, &mut owners, words, rules, &mut out)?;
+    match out.finish() {
+        Ok(()) => Ok(()),
+        Err(FlowFault::Failed) => Err(PackStop::SinkFailed),
+        Err(FlowFault::Memory) => Err(PackStop::Memory),
+    }
 }
 
 fn pack(rt: &HostRuntime, request: &Request<'_>) -> Result<u8, OutOfMemory> {

@@ -14,6 +14,8 @@ struct LastNames;
 impl Owners for LastNames {
     ghost owns = { λ path owner. Unit {0} };
 
+    ghost lacks = { λ path. Unit {0} };
+
     fn owner_at(&mut self, alloc: Global, path: &Path) -> Result<Option<Owner>, OutOfMemory> {
         let last = path.text().rsplit_once('/').map_or("", |(_, last)| last);
         match Owner::new(alloc, last, "staff") {
@@ -70,7 +72,6 @@ fn told_unfit(path: &Path, why: Unfit, answer: &mut Answer) {
         }
         Unfit::Reserved => answer.texts(&["reserved ", path.text()]),
         Unfit::Changed => answer.texts(&["changed ", path.text()]),
-        Unfit::LongLine => answer.texts(&["long line ", path.text()]),
         Unfit::NoOwner => answer.texts(&["no owner ", path.text()]),
     }
 }

@@ -21,11 +21,11 @@ loop-name-preserved c =
       was.0 ++ pair ∷ [],
       append_assoc was.0 (pair ∷ []) c.next.new.self ∙ ap (λ (l : List Pair). was.0 ++ l) (sym step) ∙ was.1,
       subst (λ (l : List DepLine). AddsDeps c.args.front.now (was.0 ++ pair ∷ []) c.args.text.now c.push_dep.new.text l) (sym c.in_ok-push.ensures.items)
-          (written_more c.args.front.now was.0 pair c.args.text.now c.loop-name.text c.push_dep.new.text c.loop-name.lines.items was.2 c.in_ok-push_dep.ensures),
+          (written_more c.args.front.now was.0 pair c.args.text.now c.loop-name.text c.push_dep.new.text c.loop-name.lines.items was.2 c.in_ok-push_dep.ensures.added),
     )
 
-pub returns : goal.returns
-returns c =
+pub returns-clause-added : goal.returns-clause-added
+returns-clause-added c =
     let was = c.loop-name.invariant in
     let ended : c.loop-name.name-iterator ≡ [] = rest_all (λ (p : Pair). p) c.loop-name.name-iterator c.next.new.self c.next.result c.in-None.is c.next.ensures.steps in
     let all : was.0 ≡ c.args.deps.keys = sym (append-nil was.0) ∙ ap (λ (l : List Pair). was.0 ++ l) (sym ended) ∙ was.1 in

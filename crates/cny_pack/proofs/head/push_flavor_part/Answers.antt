@@ -5,8 +5,8 @@ use Rattle.cny_pack.specs.Head.{AddsFlavor, AddsFlavorPart}
 use Rattle.cny_pack.proofs.Heading.{added_one}
 use Rattle.cny_pack.proofs.head.push_flavor_part.Goals as goal
 
-pub returns-in-Some : goal.returns-in-Some
-returns-in-Some c =
+pub returns-in-Some-clause-added : goal.returns-in-Some-clause-added
+returns-in-Some-clause-added c =
     let word : List ℕ = c.in-Some.word.now in
     let old : List ℕ = c.args.text.now in
     let new : List ℕ = c.push_flavor.new.text in
@@ -19,4 +19,4 @@ returns-in-Some c =
       are = (word, adds.is, refl, adds.line.fits);
       added = added_one old new (codes "flavor " ++ word) adds.line.added;
     }))
-    c.push_flavor.ensures
+    c.push_flavor.ensures.added

@@ -7,7 +7,7 @@ use Rattle.tree_disk.specs.Tree.{Name}
 use Rattle.tree_disk.specs.declared.disk.Look.{Look}
 use Rattle.cny_pack.specs.Plan.{sights_of, IsFit}
 use Rattle.cny_pack.specs.declared.plan.Sight.{Sight}
-use Rattle.cny_pack.proofs.Planning.{sights_more, stands_in, one_more, none_left}
+use Rattle.cny_pack.proofs.Planning.{sights_more, one_more, none_left}
 use Rattle.cny_pack.proofs.plan.plan.Goals as goal
 
 pub loop-path-init : goal.loop-path-init
@@ -32,7 +32,7 @@ returns-in_err-add-clause-refused c =
     let pair : Name × Look = (c.in-Some.path, c.in-Some.look) in
     let step : c.loop-path.path-iterator ≡ pair ∷ c.next.new.self = rest_more (λ (p : Name × Look). p) c.loop-path.path-iterator c.next.new.self c.next.result pair c.in-Some.is c.next.ensures.steps in
     let p = err_from_is_err_and c.from_residual.result c.from_residual.ensures.1 in
-    rw (p.1, p.2) (pair, stands_in was.0 c.loop-path.path-iterator c.next.new.self c.args.seen.entries pair was.1 step, c.in_err-add.ensures.refused)
+    rw (p.1, p.2) (was.0, pair, c.next.new.self, ap (λ (l : List (Name × Look)). was.0 ++ l) (sym step) ∙ was.1, was.3, c.in_err-add.ensures.refused)
 
 pub returns-clause-planned : goal.returns-clause-planned
 returns-clause-planned c =
