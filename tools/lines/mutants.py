@@ -72,8 +72,7 @@ ROOT, OLD_ROOT, REPO = set_up()
 PLACES = dict(ROOT), dict(OLD_ROOT), dict(REPO)
 MANIFESTS = TABLE.named("COMPONENT SECOND PACKAGE SOURCE GROUP LEVELS") + [OWNED]
 FOO = b"foo:runtime=" + LABEL
-MORE = samples.component(b"more:lib", b"1-1-1", [(b"/more", samples.plain(b"abcd"))])
-TWO_REPLY = mirrors.reply(samples.set_bytes([samples.V1, MORE], samples.carried(b"abc", b"abcd")))
+ASKED = mirrors.TABLE.named(" ".join(name + "_ASKED" for name, _ in mirrors.TABLE.fields("requests")))
 LOGS = [samples.ONE_LOG, samples.REPLAYED_LOG, samples.log_of([(DATABASE, file(PLACES[0][DATABASE][2]))])]
 
 
@@ -106,8 +105,8 @@ KINDS = {
     "manifest": (MANIFESTS, (), (), read_by(b"install", b"install --replace", b"cook", b"cook --next")),
     "change set": ([SET, RELATIVE, samples.set_bytes([samples.V2], samples.carried(b"abcd"))], (), REPO, read_by(b"update -", b"commit", b"showcs")),
     "batch": ([several.TABLE.names["FIVE"], several.batch(b"q", b"rq", (b"cook", MANIFESTS[2]), b"update bar=" + LABEL)], (), (), read_by(b"batch")),
-    "requests": (list(mirrors.STREAMS.values()), (), REPO, read_by(b"serve")),
-    "replies": ([mirrors.FIRST_REPLY, mirrors.SECOND_REPLY, mirrors.EMPTY_REPLY, TWO_REPLY], (), samples.COOKED, read_by(b"mirror take")),
+    "requests": (ASKED, (), REPO, read_by(b"serve")),
+    "replies": (mirrors.TABLE.named("FIRST_REPLY SECOND_REPLY EMPTY_REPLY TWO_REPLY"), (), samples.COOKED, read_by(b"mirror take")),
     "configuration": (
         [b"installLabelPath %s\nflavor ~ssl,!krb is: x86(sse)\n" % LABEL, b"# none\n\ninstallLabelPath a@b:c %s\r\n[section]\nflavor\n" % LABEL],
         [(b"/etc", DIR)], REPO, standing("root", CONFIG, b"changeset foo:runtime", b"update foo:runtime", b"update --resolve foo:runtime"),
