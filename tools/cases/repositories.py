@@ -1,15 +1,16 @@
 """Cases of repositories for command_lines: what is loaded of a tree, how many troves each commit has, contents, the change set between troves, and
 change sets committed one after another (tools/cases/commits.py). The first argument of each call is the tree of a repository; the answers are those
 of tools/model/repository.py."""
+import itertools
 from hashlib import sha1
 
 from tools.cases import samples
-from tools.cases.rows import Rows, flipped
+from tools.cases.rows import Rows
 from tools.cases.samples import LABEL, V1 as F1, V2 as F2, content_at, file, plain
 from tools.lines.words import answered, items, line, standing, term, tree_term
 from tools.model import repository
-from tools.model.repository import BASE, CONTENTS, MAGIC, commit_bytes, commit_path
-from tools.model.streams import id_text, item, read_set, regular, set_bytes
+from tools.model.repository import BASE, CONTENTS, commit_bytes, commit_path
+from tools.model.streams import id_text, read_set, set_bytes
 from tools.model.trees import DIR, Tree
 
 # ---- repositories
@@ -26,19 +27,9 @@ def tree_of(commits, contents, more=()):
     return {**nodes, **dict(more)}
 
 
-def with_node(nodes, path, node):
-    """The nodes with this one at a path, or with none."""
-    return dict(samples.with_node(nodes.items(), path, node))
-
-
-OLD, NEW = b"old\n", b"new\n"
-LINK = ("link", b"elsewhere")
-ELSE = b"else"
-TABLE = Rows("repositories", globals())
-V1, V2, MOVED, EMPTY, PACKAGE, NEXT_FOO, GROUP, NEXT, OTHER, LONG = TABLE.named("V1 V2 MOVED EMPTY PACKAGE NEXT_FOO GROUP NEXT OTHER LONG")
-# One content with another size than that of its record; and a trove of other flags and another mode.
-SHORT = component(b"short:runtime", b"1-1-1", [])._replace(files=[(b"/short", regular(0o644, 0, 9, sha1(OLD).digest()))])
-MODE = component(b"foo:runtime", b"1.3-1-1", [])._replace(files=[(b"/etc/foo", plain(OLD, 0o600)), (b"/usr/foo", plain(NEW, 0o644, 1))])
+OLD, NEW, ELSE = b"old\n", b"new\n", b"else"
+TABLE = Rows("repositories", globals(), {"AT_" + name: content_at(data) for name, data in (("OLD", OLD), ("NEW", NEW), ("NONE", b""))})
+V1 = TABLE.names["V1"]
 
 
 def trees_of(topic):
@@ -47,68 +38,42 @@ def trees_of(topic):
         yield tree_of(map(TABLE.named, commits.split(";")), TABLE.named(contents), *map(TABLE.nodes, more))
 
 
-TREE = next(trees_of("trees"))
+# In the order of their rows: the first tree of those that are read; the worked troves, `/etc` with one file and the next revision with other contents; one
+# with the same file at other paths and with another mode, the same contents in two troves, and a trove that the old ones don't have; two records of one
+# name with different sizes, so that no bytes can be sent for both; and a trove alone, without its contents.
+TREE, WORKED, MANY, SIZES, BARE = (next(trees_of("trees")), *trees_of("trees that are changed"))
+TABLE.names.update({"ON_" + name: list(tree.items()) for name, tree in (("TREE", TREE), ("WORKED", WORKED), ("MANY", MANY), ("SIZES", SIZES), ("BARE", BARE))})
+TABLE.names.update({f"K{number}": TREE[commit_path(number)][2] for number in (1, 2, 3)})
+
+
+def nodes_of(topic):
+    return (TABLE.tree(nodes) for nodes, *_ in TABLE.split_steps(topic))
 
 
 def trees():
-    """Each tree with which every call is made."""
-    yield from ({b"/": DIR}, {b"/": DIR, BASE: file(OLD, 0o644)}, {b"/": DIR, BASE: DIR})
-    # What nothing refers to doesn't count; a reference to a trove that is committed later, or in the same commit.
-    yield from trees_of("trees")
-    for number in (1, 2, 3):
-        path = commit_path(number)
-        text = TREE[path][2]
-        cuts, places = (1, 7, 8, 12, 13, len(text) // 2, len(text) - 5, len(text) - 1), (0, 8, 9, 14, len(text) - 5, len(text) - 1)
-        texts = [b"", MAGIC, MAGIC + item(0x4F, b""), *(text[:cut] for cut in cuts), *(flipped(text, at) for at in places), text + b"\0"]
-        yield from (with_node(TREE, path, node) for node in (None, DIR, LINK, *map(file, texts), file(text + item(0x4F, b""))))
-    # An id twice, in one commit and in two; paths that no trove may record; a reference to no trove, before which a file counts that isn't
-    # in its grammar.
-    yield from trees_of("cross-checks")
+    """Each tree with which every call is made. What nothing refers to doesn't count; a reference to a trove that is committed later, or in the same
+    commit. Then an id twice, in one commit and in two; paths that no trove may record; a reference to no trove, before which a file counts that isn't
+    in its grammar."""
+    return itertools.chain(nodes_of("least trees"), trees_of("trees"), nodes_of("damaged commits"), trees_of("cross-checks"))
 
 
 def damaged_contents():
-    """Trees whose contents are damaged."""
-    for text in (OLD, NEW, b""):
-        path = content_at(text)
-        for node in (None, DIR, LINK, file(text + b"x"), file(text[:-1]), file(b""), file(b"other"), file(text, 0o644)):
-            yield with_node(TREE, path, node)
-    yield from (with_node(tree_of([[V1]], []), CONTENTS, node) for node in (None, file(OLD)))
-    yield from (tree_of([[SHORT]], [OLD]), tree_of([[SHORT], [V1]], [OLD, NEW]))
+    return itertools.chain(nodes_of("damaged contents"), trees_of("contents of another size"))
 
 
-NAMES = [sha1(text).digest() for text in (OLD, NEW, b"", b"else")]
-
-# The worked troves: `/etc` with one file, and the next revision with other contents.
-WORKED = tree_of([[F1], [F2]], [b"abc", b"abcd"])
-
-# The same file at other paths and with another mode; the same contents in two troves; a trove that the old ones don't have.
-MANY = [[V1], [PACKAGE, GROUP, EMPTY], [V2, NEXT_FOO], [MOVED, MODE], [OTHER, NEXT]]
-MANY_TREE = tree_of(MANY, [OLD, NEW, b"", b"else"])
-# Two records of one name with different sizes, so that no bytes can be sent for both; each alone with the bytes that it asks for.
-SIZES = tree_of([[SHORT], [LONG]], [OLD])
-
-
-def pairs(topic):
-    return [list(map(TABLE.named, fields)) for fields in TABLE.fields(topic)]
+NAMES = [sha1(text).digest() for text in (OLD, NEW, b"", ELSE)]
 
 
 def sets():
     """Calls of `between`: a tree, the old troves and the new ones."""
-    yield from ((WORKED, *two) for two in pairs("over the worked troves"))
-    yield from ((MANY_TREE, *two) for two in pairs("old and new troves"))
-    # A content that is damaged counts only where it is sent.
-    for text in (OLD, NEW):
-        path = content_at(text)
-        for node in (None, DIR, LINK, file(text + b"x"), file(b"fals"), file(text, 0o644)):
-            yield from ((with_node(MANY_TREE, path, node), *two) for two in pairs("over damaged contents"))
-    yield from ((SIZES, *two) for two in pairs("over two sizes"))
+    return ((TABLE.tree(nodes), *map(TABLE.named, two)) for nodes, *two in TABLE.split_steps("sets between troves"))
 
 
 def reading():
     """The calls that read: a name, a tree, and the further arguments."""
     yield from ((call, tree, []) for tree in trees() for call in ("load", "counts"))
     yield "load", TREE, [FAILS]
-    some = [TREE, tree_of([[V1]], [OLD, NEW, b"else"]), *damaged_contents()]
+    some = [TREE, tree_of([[V1]], [OLD, NEW, ELSE]), *damaged_contents()]
     yield from ((call, tree, [name]) for tree in some for name in NAMES for call in ("content", "source"))
     yield from (("source", TREE, [name, FAILS]) for name in (NAMES[0], NAMES[3]))
     yield from (("between", tree, [old, fresh]) for tree, old, fresh in sets())

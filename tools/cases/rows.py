@@ -14,7 +14,7 @@ from tools.model.streams import (
     ChangeSet, Id, Owner, Trove, directory, file_of, flags_of_letters, item, link, set_bytes, sha, str_field, trove_bytes,
     trove_of,
 )  # fmt: skip
-from tools.model.trees import Tree
+from tools.model.trees import DIR, Tree
 
 LABEL, STABLE = b"conary.example.com@ex:devel", b"conary.example.com@ex:stable"
 MODES = {"dir": 0o755, "file": 0o644}
@@ -119,7 +119,7 @@ def batch(*lines):
 class Rows:
     """A table, and what its rows name: the texts, manifests, troves and nodes of these topics, and values of modules, also those that a
     module has for its rows alone. In bytes `%` and two digits are a byte, and an escape is what it is in Python; `{NAME}` is such a value, `{NAME:9}`
-    the first 9 bytes of it, `{flip 9 NAME}` all of it with another 9th byte, `{NONE}` none; `{byte 9}` a byte by its number, `{sha abc}` the SHA-1 of a
+    the first 9 bytes of it, `{flip 9 NAME}` all of it with another 9th byte, `{NONE}` none; `{9*a}` a text so many times, `{byte 9}` a byte by its number, `{sha abc}` the SHA-1 of a
     text, `{full V1}` and `{compact V1}` the stream of a trove, `{set V1 V2: abc abcd}` the change set of these parts and contents; `{04:` and `}` stand around the value of an item of this tag, `{str:` and `}` around a text behind its length. `data` reads
     the bytes of files."""
 
@@ -167,8 +167,8 @@ class Rows:
         return made
 
     def value(self, text):
-        """What stands in braces."""
-        word, _, rest = text.partition(" ")
+        """What stands in braces, where `%20` may stand for a space."""
+        word, _, rest = text.replace("%20", " ").partition(" ")
         if word == "byte":
             return bytes([int(rest)])
         if word == "sha":
@@ -181,6 +181,8 @@ class Rows:
         if word == "set":
             parts, _, contents = rest.partition(":")
             return set_bytes(self.named(parts), sorted((sha(data), data) for data in map(unescaped, contents.split())))
+        if repeats := re.fullmatch(r"(\d+)\*(.*)", text):
+            return int(repeats[1]) * unescaped(repeats[2])
         name, _, size = text.partition(":")
         return self.names[name][: int(size) if size else None]
 
@@ -254,6 +256,14 @@ class Rows:
             else:
                 found += self.nodes(self.names[path], made) if isinstance(self.names[path], str) else self.names[path]
         return found
+
+    def tree(self, text):
+        """The nodes of a tree, with `/` of mode 0755."""
+        return {path: node for path, node in {b"/": DIR, **dict(self.nodes(text))}.items() if node is not None}
+
+    def split_steps(self, topic):
+        """The fields of each step, with `|` between two."""
+        return (re.split(r" ?\| ?", step) for step in self.steps(rows_of(self.topics, topic)))
 
     def all_nodes(self, topic):
         return list(map(self.node, self.topics[topic]))

@@ -43,10 +43,6 @@ def content_at(data):
     return REPO + b"/c/" + hashlib.sha1(data).hexdigest().encode()
 
 
-def with_node(edits, path, node):
-    return [(other, old) for other, old in edits if other != path] + ([] if node is None else [(path, node)])
-
-
 def edited(data, start, end, others=b""):
     return data[:start] + others + data[end:]
 
