@@ -167,17 +167,16 @@ class Rows:
         return made
 
     def value(self, text):
-        """What stands in braces, where `%20` may stand for a space."""
-        word, _, rest = text.replace("%20", " ").partition(" ")
+        """What stands in braces."""
+        word, _, rest = text.partition(" ")
         if word == "byte":
             return bytes([int(rest)])
         if word == "sha":
             return sha(unescaped(rest))
         if word in ("full", "compact"):
             return trove_bytes(self.names[rest], word == "full")
-        if word == "flip":
-            place, _, name = rest.partition(" ")
-            return flipped(self.names[name], int(place))
+        if flips := re.fullmatch(r"flip(?: |%20)(\d+)(?: |%20)(\w+)", text):
+            return flipped(self.names[flips[2]], int(flips[1]))
         if word == "set":
             parts, _, contents = rest.partition(":")
             return set_bytes(self.named(parts), sorted((sha(data), data) for data in map(unescaped, contents.split())))
