@@ -11,20 +11,20 @@ use Rattle.repo_load.specs.Files.{contents_dir, repository_base}
 use Rattle.cny_laws.specs.declared.failure.Failure.{Failure}
 use Rattle.cny_laws.specs.declared.failure.Failure.TheVariants as failure
 use Rattle.cny_laws.specs.declared.opened.Opened.{Opened}
-use Rattle.cny_laws.specs.Call.{CallState, AreOpened, NotOpened}
+use Rattle.cny_laws.specs.Call.{CallState, AreOpened, HasOpened, NotOpened}
 use Rattle.cli_call.specs.Runs.{StopsReading, RunsWith, RunsOpen, RunsCall}
-use Rattle.cny_laws.specs.WholeCall.{CallFrom, FromStates, IsOnRepository, IsOnRoot, CallReaches}
+use Rattle.cny_laws.specs.WholeCall.{CallFrom, EndsByOpened, FromStates, IsOnRepository, IsOnRoot, CallReaches}
 use Rattle.cli_call.proofs.CallEnds.{own_ends, own_unread}
 use Rattle.cli_call.proofs.CallStates.{from_unopened, from_unread, from_run}
 use Rattle.cli_call.specs.Command.{disks}
 use Rattle.cli_call.proofs.InputLaws.{any_input, read_input_of}
-use Rattle.cli_call.proofs.OpenedEnds.{opened_holds}
-use Rattle.cli_call.specs.Line.{LineCause, Moment}
-use Rattle.cny_laws.specs.Reading.{IsInput, ReadsGiven}
+use Rattle.cli_call.proofs.OpenedEnds.{moments_read, opened_holds}
+use Rattle.cli_call.specs.Line.{LineByOpened, LineCause, Moment}
+use Rattle.cny_laws.specs.Reading.{given, Gives, IsInput, ReadsGiven}
 use Rattle.cny_laws.specs.Report.{End}
 use Rattle.cli_call.proofs.RepositoryStates.{opened_root, repository_run, repository_unopened, repository_unread, unopened_root}
 use Rattle.cli_call.proofs.RootStates.{root_unopened, root_unread, root_run, unopened_only, opened_only}
-use Rattle.cny_laws.specs.State.{Meaning, Scope}
+use Rattle.cny_laws.specs.State.{Meaning, Scope, State}
 use Rattle.cny_laws.specs.Store.{IsSettled, IsStore}
 use Rattle.cli_call.proofs.StoreLaws.{nothing_done}
 use Rattle.cny_laws.specs.Stores.{repository_store, root_store}
@@ -70,6 +70,18 @@ module _ {T P : Type 0} {root_disk : DiskModel T} {repo_disk : DiskModel P} (roo
     abbrev ended : Moment T P
     ended = record { at = disks now.root now.repo opened'; out = now.out }
 
+    -- on a state that has what was read when the disks were opened
+    unread_opened : (input : List ℕ) {end : End} (stops : StopsReading root_disk repo_disk m before.input now.input begun ended end) → now.root ≡ root → now.repo ≡ repo → Gives m.takes_input input (Err stops.failure) → (s : State) → HasOpened root_disk root opened s
+        → EndsByOpened root_disk repo_disk m input s root before now (Err stops.failure)
+    unread_opened input stops same_root same_repo gives s has = record {
+      next = s;
+      ends = own_unread m s input before.out now.out stops.failure stops.reads gives;
+      holds = λ small. opened_holds root now.root repo now.repo opened (λ t. (opens.opens_root.opened t).holds) (λ t. (opens.opens.opened t).value_is) (λ t. ap root_disk.reads same_root) (λ t. ap repo_disk.reads same_repo) s has;
+      moments = λ told.
+          let at = opens.opens_root.opened told in
+          moments_read root now.root opened at.settled.flag_clear at.settled.synced at.holds (subst (λ (d : T). HasRead root_disk root d (Unit {0})) (sym same_root) (nothing_done root_laws root)) root_laws s s has;
+    }
+
     known_unread : (end : End) → StopsReading root_disk repo_disk m before.input now.input begun ended end → CallKnown root_disk repo_disk scope m before now end
     known_unread end stops =
         let read = read_input_of m.takes_input before.input now.input (Err stops.failure) stops.reads in
@@ -99,12 +111,10 @@ module _ {T P : Type 0} {root_disk : DiskModel T} {repo_disk : DiskModel P} (roo
             damaged = λ path is. absurd (not_damaged m.takes_input before.input now.input stops.failure path stops.reads is);
             by_lists = λ is. (same_root, same_repo, λ s has. own_unread m s read.input before.out now.out stops.failure stops.reads read.gives);
             by_tree = λ is told s has. own_unread m s read.input before.out now.out stops.failure stops.reads read.gives;
-            by_opened = λ is told repo_told s has. record {
-              next = s;
-              ends = own_unread m s read.input before.out now.out stops.failure stops.reads read.gives;
-              holds = λ small. opened_holds root now.root repo now.repo opened (λ t. (opens.opens_root.opened t).holds) (λ t. (opens.opens.opened t).value_is) (λ t. ap root_disk.reads same_root) (λ t. ap repo_disk.reads same_repo) s has;
-            };
+            by_opened = λ is told repo_told s has. unread_opened read.input stops same_root same_repo read.gives s has;
             contents_stay = λ is told name of_content. ap (λ (d : P). stored (repo_disk.reads d) contents_dir name) same_repo;
+            by_contents = λ is told repo_told whole s has contents. unread_opened read.input stops same_root same_repo read.gives s has;
+            named_stay = λ is told name of_content there. ap (λ (d : P). stored (repo_disk.reads d) contents_dir name) same_repo;
           });
           from = λ told repo_told s recovers. from_unread root_laws repo_laws store_laws scope m before now read.input told repo_told s recovers root repo opened opened' opens stops.failure stops.reads read.gives stops.same;
           on_root = λ is. record {
@@ -118,6 +128,9 @@ module _ {T P : Type 0} {root_disk : DiskModel T} {repo_disk : DiskModel P} (roo
           };
         } in
         subst (λ (x : End). CallKnown root_disk repo_disk scope m before now x) (sym stops.is) known
+
+    run_opened : (input bytes : List ℕ) (end : End) → given m.takes_input input ≡ Ok bytes → (s : State) → LineByOpened root_disk repo_disk (m.IsOutcome s bytes) s begun ended end → EndsByOpened root_disk repo_disk m input s root before now end
+    run_opened input bytes end gives s by = record { next = by.next; ends = own_ends m s input bytes gives before.out now.out by.next end by.ends; holds = by.holds; moments = by.moments }
 
     known_run : (end : End) → RunsWith root_disk repo_disk scope m before.input now.input begun ended end → CallKnown root_disk repo_disk scope m before now end
     known_run end runs =
@@ -145,12 +158,10 @@ module _ {T P : Type 0} {root_disk : DiskModel T} {repo_disk : DiskModel P} (roo
             damaged = λ path is. (subst (λ (x : End). LineCause root_disk repo_disk begun ended x) is runs.runs.cause).0;
             by_lists = λ is. let by = runs.runs.by_lists is in (by.root, by.repo, λ s has. own_ends m s read.input runs.bytes read.gives before.out now.out s end (by.ends s has));
             by_tree = λ is told s has. own_ends m s read.input runs.bytes read.gives before.out now.out s end (runs.runs.by_tree is told s has);
-            by_opened = λ is told repo_told s has. let by = runs.runs.by_opened is told repo_told s has in record {
-              next = by.next;
-              ends = own_ends m s read.input runs.bytes read.gives before.out now.out by.next end by.ends;
-              holds = by.holds;
-            };
+            by_opened = λ is told repo_told s has. run_opened read.input runs.bytes end read.gives s (runs.runs.by_opened is told repo_told s has);
             contents_stay = runs.runs.contents_stay;
+            by_contents = λ is told repo_told whole s has contents. run_opened read.input runs.bytes end read.gives s (runs.runs.by_contents is told repo_told whole s has contents);
+            named_stay = runs.runs.named_stay;
           });
           from = λ told repo_told s recovers. from_run root_laws repo_laws store_laws scope m before now read.input told repo_told s recovers root repo opened opened' opens runs.bytes runs.reads read.gives end runs.runs;
           on_root = λ is. record {

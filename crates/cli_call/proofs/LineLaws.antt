@@ -7,10 +7,10 @@ use Rattle.cny_laws.specs.system-core.tree-disk.Disk.{DiskModel}
 use Rattle.cny_laws.specs.system-core.tree-disk.Tree.{Name}
 use Rattle.cny_laws.specs.declared.failure.Failure.{Failure}
 use Rattle.cny_laws.specs.declared.failure.Failure.TheVariants as failure
-use Rattle.cli_call.specs.Alone.{PerformsWithin}
+use Rattle.cli_call.specs.Alone.{AnswersOpened, PerformsWithin}
 use Rattle.cli_call.specs.Command.{Disks, HasFailureCause, Goes, AnswersAs, end_of}
 use Rattle.cny_laws.specs.Report.{ChangesNothing, End, status_of}
-use Rattle.cli_call.specs.Line.{Moment, WritesAnswer, EndsWriting, LineCause, RunsLine}
+use Rattle.cli_call.specs.Line.{Moment, WritesAnswer, EndsWriting, LineByOpened, LineCause, RunsLine}
 use Rattle.cny_laws.specs.State.{Scope, State, Effect, Meaning, Takes}
 use Rattle.cny_laws.specs.Store.{Store}
 
@@ -49,11 +49,11 @@ error_cause root_disk repo_disk old new before now _ keeps h = absurd h
 module _ {T P : Type 0} {root_disk : DiskModel T} {repo_disk : DiskModel P} {m : Meaning} {input : List ℕ} {old new : Disks T P} (before now : SinkState) (scope : Scope) where
   -- a line ended as its command did, or by the write: what the command did is what the line did
   line_ends : (result : Result (List ℕ) Failure) (end : End) → before.faults ≤ now.faults → LineCause root_disk repo_disk (with_out old before) (with_out new now) end
-      → (status_of end ≤ 4 → status_of (end_of result) ≤ 4) → (ChangesNothing end → ChangesNothing (end_of result)) → ((path : Name) → end ≡ Err (failure.Damaged path) → result ≡ Err (failure.Damaged path))
+      → (status_of end ≤ 4 → status_of (end_of result) ≤ 4) → (status_of end ≤ 7 → status_of (end_of result) ≤ 7) → (ChangesNothing end → ChangesNothing (end_of result)) → ((path : Name) → end ≡ Err (failure.Damaged path) → result ≡ Err (failure.Damaged path))
       → ((s next : State) → AnswersAs (m.IsOutcome s input) s next result → EndsWriting (m.IsOutcome s input) s next before now end)
       → PerformsWithin root_disk repo_disk scope m input old new result
       → RunsLine root_disk repo_disk scope m input (with_out old before) (with_out new now) end
-  line_ends result end later cause fewer nothing named ends done = record {
+  line_ends result end later cause fewer undamaged nothing named ends done = record {
     root_later = done.performs.root_later;
     repo_later = done.performs.repo_later;
     out_later = later;
@@ -93,31 +93,32 @@ module _ {T P : Type 0} {root_disk : DiskModel T} {repo_disk : DiskModel P} {m :
     };
     by_lists = λ is. let a = done.lists is in record { root = a.root; repo = a.repo; ends = λ s has. ends s s (a.answers s has) };
     by_tree = λ is told s has. ends s s ((done.tree is).answers told s has);
-    by_opened = λ is told repo_told s has. let a = done.opened is repo_told told s has in record {
-      next = a.next;
-      ends = ends s a.next a.answers;
-      holds = λ le. a.holds (fewer le);
-    };
+    by_opened = λ is told repo_told s has. opened_line s (done.opened is repo_told told s has);
     contents_stay = done.contents;
+    by_contents = λ is told repo_told whole s has contents. opened_line s (done.by_contents is told repo_told (undamaged whole) s has contents);
+    named_stay = done.named;
     root_read = done.root_read;
     repo_read = done.repo_read;
   }
+    where
+      opened_line : (s : State) → AnswersOpened root_disk repo_disk (m.IsOutcome s input) s old new result → LineByOpened root_disk repo_disk (m.IsOutcome s input) s (with_out old before) (with_out new now) end
+      opened_line s a = record { next = a.next; ends = ends s a.next a.answers; holds = λ le. a.holds (fewer le); moments = a.moments }
 
   error_line : (e : Failure) → before.faults ≤ now.faults → now ≡ before → PerformsWithin root_disk repo_disk scope m input old new (Err e)
       → RunsLine root_disk repo_disk scope m input (with_out old before) (with_out new now) (Err e)
   error_line e later same done =
       let keeps = keeps_still before now same in
-      line_ends (Err e) (Err e) later (error_cause root_disk repo_disk old new before now e keeps done.performs.cause) (λ le. le) (λ none. none) (λ path is. let one : e ≡ failure.Damaged path = cc is in ap Err one)
+      line_ends (Err e) (Err e) later (error_cause root_disk repo_disk old new before now e keeps done.performs.cause) (λ le. le) (λ le. le) (λ none. none) (λ path is. let one : e ≡ failure.Damaged path = cc is in ap Err one)
       (λ s next answers. error_ends (m.IsOutcome s input) s next before now e keeps answers) done
 
   -- the whole line
   pub line_written : (result : Result (List ℕ) Failure) (end : End) → PerformsWithin root_disk repo_disk scope m input old new result → WritesAnswer result before now end
       → RunsLine root_disk repo_disk scope m input (with_out old before) (with_out new now) end
   line_written (Err e) end done writes = subst (λ (x : End). RunsLine root_disk repo_disk scope m input (with_out old before) (with_out new now) x) (sym writes.wrote.0) (error_line e writes.later writes.wrote.1 done)
-  line_written (Ok text) (Ok x) done writes = line_ends (Ok text) (Ok x) writes.later tt (λ le. le) (λ none. none) (λ path is. absurd (cc is))
+  line_written (Ok text) (Ok x) done writes = line_ends (Ok text) (Ok x) writes.later tt (λ le. le) (λ le. le) (λ none. none) (λ path is. absurd (cc is))
       (λ s next answers. takes_so (λ bytes is. subst (λ b. Appends before.written now.written b) (sym is) writes.wrote) answers) done
-  line_written (Ok text) (Err failure.OutputFault) done writes = line_ends (Ok text) (Err failure.OutputFault) writes.later writes.wrote.0 (λ le. omega arith) (λ none. none) (λ path is. absurd (cc is))
+  line_written (Ok text) (Err failure.OutputFault) done writes = line_ends (Ok text) (Err failure.OutputFault) writes.later writes.wrote.0 (λ le. omega arith) (λ le. omega arith) (λ none. none) (λ path is. absurd (cc is))
       (λ s next answers. takes_so (λ bytes is. subst (λ b. AppendsPart before.written now.written b) (sym is) writes.wrote.1) answers) done
-  line_written (Ok text) (Err failure.Memory) done writes = line_ends (Ok text) (Err failure.Memory) writes.later writes.wrote (λ le. absurd (omega (arith, le))) (λ none. none) (λ path is. absurd (cc is))
+  line_written (Ok text) (Err failure.Memory) done writes = line_ends (Ok text) (Err failure.Memory) writes.later writes.wrote (λ le. absurd (omega (arith, le))) (λ le. omega arith) (λ none. none) (λ path is. absurd (cc is))
       (λ s next answers. (inr (takes_so (λ bytes is. tt) answers), writes.wrote)) done
   line_written (Ok text) _ done writes = absurd writes.wrote

@@ -120,10 +120,10 @@ module _ {T P : Type 0} {root_disk : DiskModel T} {repo_disk : DiskModel P} wher
         StoppedOpened f = AnswersByOpened root_disk repo_disk m input (disks root repo opened) (disks root' repo opened) (Err f)
 
         stopped_opened : ((s : State) (refused : Refusal) → HasConfig (tree_of s.root) (Err refused) → m.IsOutcome s input (Err refused)) → (e : Stop) → ReadsConfig root_disk root root' (Err e) → IfErr (let r : Result Config Stop = Err e in root_result r) StoppedOpened
-        stopped_opened refuses (stop.Refused refused) reads = refused_opened m input (disks root repo opened) (disks root' repo opened) ready (λ told. (reads.same told).same.reads) (λ told. refl) refused
+        stopped_opened refuses (stop.Refused refused) reads = refused_opened root_disk_laws m input (disks root repo opened) (disks root' repo opened) ready reads.same (λ told. refl) refused
             (λ told s has. refuses s refused (config_opened root opened (Err refused) (reads.ends told) s has))
-        stopped_opened refuses stop.Failed reads = root_fault_opened m input (disks root repo opened) (disks root' repo opened)
-        stopped_opened refuses stop.Memory reads = memory_opened m input (disks root repo opened) (disks root' repo opened)
+        stopped_opened refuses stop.Failed reads = root_fault_opened root_disk_laws m input (disks root repo opened) (disks root' repo opened) ready reads.same
+        stopped_opened refuses stop.Memory reads = memory_opened root_disk_laws m input (disks root repo opened) (disks root' repo opened) ready reads.same
         stopped_opened refuses (stop.Damaged path) reads = absurd reads.ends
         stopped_opened refuses stop.FarFailed reads = absurd reads.ends
         stopped_opened refuses (stop.FarDamaged path) reads = absurd reads.ends

@@ -3,7 +3,7 @@
 use Rattle.std.specs.Prelude.{◌≡◌, ℕ, ◌≤◌, false, true, IsTrue, List, Result}
 use Rattle.cny_laws.specs.system-core.cny-base.declared.refusal.Refusal.{Refusal}
 use Rattle.cny_laws.specs.system-core.tree-disk.Clear.{is_within}
-use Rattle.cny_laws.specs.system-core.tree-disk.Confined.{Among, Confined}
+use Rattle.cny_laws.specs.system-core.tree-disk.Confined.{Among, Confined, LeavesOnly}
 use Rattle.cny_laws.specs.system-core.tree-disk.Disk.{DiskModel, Reads}
 use Rattle.cny_laws.specs.system-core.tree-disk.Unfailed.{UnlessFailed}
 use Rattle.repo_load.specs.Files.{repository_base}
@@ -15,7 +15,7 @@ use Rattle.cny_laws.specs.Shown.{KeepsOthers, IsShown}
 use Rattle.cny_laws.specs.State.{State, Effect, Meaning, Scope}
 use Rattle.cny_laws.specs.Store.{IsSettled, NamesDamaged, RestsAt}
 use Rattle.cny_laws.specs.Stores.{root_store, repository_store}
-use Rattle.cny_laws.specs.Call.{ContentsStay, HasOpenedLists, HasOpened, HasTree, HoldsOpened}
+use Rattle.cny_laws.specs.Call.{ContentsStay, HasOpenedLists, HasOpened, HasTree, HasWholeContents, HoldsOpened, IsHeldOf, NamedStay}
 
 module _ {T P : Type 0} (root_disk : DiskModel T) (repo_disk : DiskModel P) where
   -- From a state whose root the root's disk stores, whatever repository the state has: the state after it, and what the root went
@@ -70,16 +70,24 @@ module _ {T P : Type 0} (root_disk : DiskModel T) (repo_disk : DiskModel P) wher
     pub answers : IsTrue root_disk.tells → (s : State) → HasTree root_disk old.root old.opened s → AnswersAs (m.IsOutcome s input) s s result
 
   -- By a state that has what was read when the disks were opened: the state after it, of which, after a status up to 4, the disks hold
-  -- the database and the catalogue.
-  pub record AnswersOpened (IsOutcome : Result Effect Refusal → Type 0) (s : State) (new : Disks T P) (result : Result (List ℕ) Failure) : Type 0 where
+  -- the tree, the database and the catalogue; and at every moment a crash leaves a root that recovers to the tree and the database of the
+  -- state before or of this one.
+  pub record AnswersOpened (IsOutcome : Result Effect Refusal → Type 0) (s : State) (old new : Disks T P) (result : Result (List ℕ) Failure) : Type 0 where
     pub next : State
     pub answers : AnswersAs IsOutcome s next result
     pub holds : status_of (end_of result) ≤ 4 → HoldsOpened root_disk repo_disk new.root new.repo next
+    pub moments : IsTrue root_disk.tells → LeavesOnly root_disk old.root new.root (IsHeldOf s next)
 
   -- THE CLAUSE of the function of a command that works on the root's tree and on what was read when the disks were opened, whatever else
   -- both store: it answers as on each state that has these.
   abbrev pub AnswersByOpened : Meaning → List ℕ → Disks T P → Disks T P → Result (List ℕ) Failure → Type 0
-  AnswersByOpened m input old new result = IsTrue root_disk.tells → (s : State) → HasOpened root_disk old.root old.opened s → AnswersOpened (m.IsOutcome s input) s new result
+  AnswersByOpened m input old new result = IsTrue root_disk.tells → (s : State) → HasOpened root_disk old.root old.opened s → AnswersOpened (m.IsOutcome s input) s old new result
+
+  -- THE CLAUSE of the function of a command that also works on contents of the repository, whatever else both disks store, unless it met a
+  -- damaged one: it answers as on each state that has these, and the contents which stand whole.
+  abbrev pub AnswersByContents : Meaning → List ℕ → Disks T P → Disks T P → Result (List ℕ) Failure → Type 0
+  AnswersByContents m input old new result =
+      IsTrue root_disk.tells → IsTrue repo_disk.tells → status_of (end_of result) ≤ 7 → (s : State) → HasOpened root_disk old.root old.opened s → HasWholeContents repo_disk old.repo old.opened s → AnswersOpened (m.IsOutcome s input) s old new result
 
   -- ALL CLAUSES of a command that works on so much: it was performed, also where it is told of no more than what it works on, and a disk
   -- that it only reads was only read.
@@ -90,6 +98,8 @@ module _ {T P : Type 0} (root_disk : DiskModel T) (repo_disk : DiskModel P) wher
     pub tree : scope.of_tree ≡ true → AnswersByTree m input old new result
     pub opened : scope.of_opened ≡ true → (scope.of_root ≡ false → IsTrue repo_disk.tells) → AnswersByOpened m input old new result
     pub contents : scope.of_opened ≡ true → ContentsStay repo_disk old.repo new.repo
+    pub by_contents : scope.of_contents ≡ true → AnswersByContents m input old new result
+    pub named : scope.of_contents ≡ true → NamedStay repo_disk old.opened.catalogue.troves old.repo new.repo
     pub lists : scope.of_lists ≡ true → AnswersByLists m input old new result
     pub root_read : scope.reads_root ≡ true → Reads root_disk old.root new.root (Unit {0})
     pub repo_read : scope.reads_repository ≡ true → Reads repo_disk old.repo new.repo (Unit {0})

@@ -1,4 +1,5 @@
 pub mod Answer
+pub mod Input
 pub mod Command
 pub mod Alone
 pub mod Line

@@ -5,7 +5,7 @@ use Rattle.cny_laws.specs.system-core.cny-base.Count.{Rose}
 use Rattle.cny_laws.specs.system-core.cny-base.declared.refusal.Refusal.{Refusal}
 use Rattle.cny_flow.specs.Flow.{SinkModel, SinkState, sink_state, AppendsPart}
 use Rattle.cny_laws.specs.system-core.tree-disk.Clear.{is_within}
-use Rattle.cny_laws.specs.system-core.tree-disk.Confined.{Among, Confined}
+use Rattle.cny_laws.specs.system-core.tree-disk.Confined.{Among, Confined, LeavesOnly}
 use Rattle.cny_laws.specs.system-core.tree-disk.Disk.{DiskModel, Reads}
 use Rattle.repo_load.specs.Files.{repository_base}
 use Rattle.repo_load.specs.State.{RepositoryState}
@@ -13,7 +13,7 @@ use Rattle.cny_laws.specs.system-core.tree-disk.Unfailed.{UnlessFailed}
 use Rattle.cny_laws.specs.declared.failure.Failure.{Failure}
 use Rattle.cny_laws.specs.declared.failure.Failure.TheVariants as failure
 use Rattle.cny_laws.specs.declared.opened.Opened.{Opened}
-use Rattle.cny_laws.specs.Call.{ContentsStay, HasOpenedLists, HasOpened, HasTree, HoldsOpened}
+use Rattle.cny_laws.specs.Call.{ContentsStay, HasOpenedLists, HasOpened, HasTree, HasWholeContents, HoldsOpened, IsHeldOf, NamedStay}
 use Rattle.cli_call.specs.Command.{Disks, disks, Goes, StandsFor, Rest, ReadsSame, HasDamage}
 use Rattle.cny_laws.specs.Shown.{KeepsOthers, IsShown}
 use Rattle.cny_laws.specs.Report.{ChangesNothing, End, status_of}
@@ -120,6 +120,7 @@ module _ {T P : Type 0} (root_disk : DiskModel T) (repo_disk : DiskModel P) wher
     pub next : State
     pub ends : EndsWriting IsOutcome s next old.out new.out end
     pub holds : status_of end ≤ 4 → HoldsOpened root_disk repo_disk new.at.root new.at.repo next
+    pub moments : IsTrue root_disk.tells → LeavesOnly root_disk old.at.root new.at.root (IsHeldOf s next)
 
   -- A command of this meaning, which works on so much, was performed with this input, what it answered was written, and it
   -- ended so.
@@ -138,6 +139,8 @@ module _ {T P : Type 0} (root_disk : DiskModel T) (repo_disk : DiskModel P) wher
     pub by_tree : scope.of_tree ≡ true → LineByTree m input old new end
     pub by_opened : scope.of_opened ≡ true → IsTrue root_disk.tells → (scope.of_root ≡ false → IsTrue repo_disk.tells) → (s : State) → HasOpened root_disk old.at.root old.at.opened s → LineByOpened (m.IsOutcome s input) s old new end
     pub contents_stay : scope.of_opened ≡ true → ContentsStay repo_disk old.at.repo new.at.repo
+    pub by_contents : scope.of_contents ≡ true → IsTrue root_disk.tells → IsTrue repo_disk.tells → status_of end ≤ 7 → (s : State) → HasOpened root_disk old.at.root old.at.opened s → HasWholeContents repo_disk old.at.repo old.at.opened s → LineByOpened (m.IsOutcome s input) s old new end
+    pub named_stay : scope.of_contents ≡ true → NamedStay repo_disk old.at.opened.catalogue.troves old.at.repo new.at.repo
     -- a disk that it only reads
     pub root_read : scope.reads_root ≡ true → Reads root_disk old.at.root new.at.root (Unit {0})
     pub repo_read : scope.reads_repository ≡ true → Reads repo_disk old.at.repo new.at.repo (Unit {0})

@@ -3,7 +3,8 @@ ghost use Rattle.std.specs.Prelude.{◌≡◌, ◌⊎◌, ◌≤◌, ◌+◌, �
 ghost use Rattle.std.specs.Io.KnownBytes.{Consumes, IsAtEnd};
 ghost use Rattle.cny_laws.specs.system-core.cny-base.Count.{Rose};
 ghost use Rattle.cny_flow.specs.Flow.{source_state};
-ghost use Rattle.cny_laws.specs.Input.{input_limit, IsOfSome, ReadsInput};
+ghost use Rattle.cli_call.specs.Input.{ReadsInput};
+ghost use Rattle.cny_laws.specs.Input.{input_limit, IsOfSome};
 ghost use Rattle.cny_laws.specs.Reading.{ReadsGiven};
 
 use cny_flow::{FlowFault, Source};

@@ -1,9 +1,10 @@
 -- What a call works on, and how its disks are opened.
-use Rattle.std.specs.Prelude.{◌≡◌, ◌⊎◌, ℕ, IsTrue, List, Result, Ok, Err}
+use Rattle.std.specs.Prelude.{◌≡◌, ◌⊎◌, ℕ, true, IsTrue, List, Option, Result, Ok, Err}
 use Rattle.system_core.specs.cny-base.declared.stop.Stop.{Stop}
 use Rattle.cny_flow.specs.Flow.{SourceModel, SourceState, source_state, SinkModel, SinkState, sink_state}
 use Rattle.system_core.specs.tree-disk.Disk.{DiskModel}
-use Rattle.repo_index.specs.Catalogue.{CatalogueParts}
+use Rattle.repo_index.specs.Catalogue.{CatalogueParts, has_content}
+use Rattle.repo_load.specs.Contents.{FindsContent}
 use Rattle.repo_load.specs.Files.{contents_dir, HoldsCatalogue}
 use Rattle.repo_load.specs.Loading.{IsCatalogue}
 use Rattle.cny_laws.specs.declared.failure.Failure.{Failure}
@@ -18,9 +19,11 @@ use Rattle.local_db.specs.declared.format.Format.TheVariants.{Two}
 use Rattle.local_db.specs.Stores.{HoldsDatabase}
 use Rattle.local_db.specs.SystemState.{IsSystemState, newest, oldest}
 use Rattle.system_core.specs.Job.{db_of}
+use Rattle.system_core.specs.JobWriting.{RecoversToHeld}
 use Rattle.system_core.specs.content-store.Store.{stored, IsContentName}
 use Rattle.system_core.specs.cny-base.Reserved.{is_reserved}
-use Rattle.system_core.specs.tree-disk.Tree.{AgreesOutside}
+use Rattle.system_core.specs.tree-disk.Tree.{AgreesOutside, Tree}
+use Rattle.system_core.specs.trove-stream.declared.parts.TroveParts.{TroveParts}
 use Rattle.repo_load.specs.State.{catalogue_of, troves_of}
 use Rattle.cny_laws.specs.State.{State, tree_of}
 
@@ -51,10 +54,23 @@ pub record HasOpened {T : Type 0} (root_disk : DiskModel T) (root : T) (opened :
   pub database : db_of s.root ≡ opened.db
   pub catalogue : catalogue_of s.repository.commits ≡ opened.catalogue
 
--- each disk that is told holds the database, or the catalogue, of the state
+-- each disk that is told holds the database, or the catalogue, of the state, and the root its tree outside the private directory
 pub record HoldsOpened {T P : Type 0} (root_disk : DiskModel T) (repo_disk : DiskModel P) (root : T) (repo : P) (s : State) : Type 0 where
+  pub outer : IsTrue root_disk.tells → AgreesOutside is_reserved (root_disk.reads root) (tree_of s.root)
   pub database : IsTrue root_disk.tells → HoldsDatabase Two (root_disk.reads root) s.root.installed (oldest s.root.stack) (newest s.root.stack)
   pub catalogue : IsTrue repo_disk.tells → HoldsCatalogue (repo_disk.reads repo) (catalogue_of s.repository.commits)
+
+-- an image of the root recovers to a tree that is so outside the private directory and holds the database of the one state, or of the other
+abbrev pub IsHeldOf : State → State → Tree → Type 0
+IsHeldOf s next image = RecoversToHeld (tree_of s.root) (db_of s.root) image ⊎ RecoversToHeld (tree_of next.root) (db_of next.root) image
+
+-- what a search of the repository's contents finds is so in the state: the bytes that stand whole, or none where no trove names them
+abbrev pub HasWholeContents : {P : Type 0} → DiskModel P → P → Opened → State → Type 0
+HasWholeContents repo_disk repo opened s = (name : List ℕ) (found : Option (List ℕ)) → FindsContent opened.catalogue.troves name (repo_disk.reads repo) found → found ≡ s.repository.contents name
+
+-- what stands in a repository under the name of each content that one of the troves names is what stood there
+abbrev pub NamedStay : {P : Type 0} → DiskModel P → List TroveParts → P → P → Type 0
+NamedStay repo_disk troves old new = IsTrue repo_disk.tells → (name : List ℕ) → IsContentName name → has_content name troves ≡ true → stored (repo_disk.reads new) contents_dir name ≡ stored (repo_disk.reads old) contents_dir name
 
 -- what stands in a repository under the name of each content is what stood there
 abbrev pub ContentsStay : {P : Type 0} → DiskModel P → P → P → Type 0

@@ -1,5 +1,5 @@
 -- The input of a command, and its limit.
-use Rattle.std.specs.Prelude.{◌≡◌, ℕ, ◌+◌, List, length, drop, Option, Some, IfSome, Result, Ok, Err, nat_lt, if◌then◌else◌}
+use Rattle.std.specs.Prelude.{◌≡◌, ℕ, ◌+◌, List, length, drop, Result, Ok, Err, nat_lt, if◌then◌else◌}
 use Rattle.system_core.specs.cny-base.declared.limits.TheConstants.{INPUT_LIMIT}
 use Rattle.system_core.specs.cny-base.declared.refusal.Refusal.{Refusal}
 use Rattle.system_core.specs.cny-base.declared.refusal.Refusal.TheVariants.{TooLarge}
@@ -26,11 +26,3 @@ IsOfSome (Err (failure.Refused r)) = (input : List ℕ) × (within_limit input �
 IsOfSome (Err failure.InputFault) = Unit {0}
 IsOfSome (Err failure.Memory) = Unit {0}
 IsOfSome (Err _) = ⊥
-
--- how reading the input ended, from the bytes that were left to those that are
-abbrev pub ReadsInput : Option (List ℕ) → Option (List ℕ) → Result (List ℕ) Failure → Type 0
-ReadsInput left rest (Ok bytes) = IfSome left (λ input. (within_limit input ≡ Ok bytes) × (rest ≡ Some (left_after_reading input)))
-ReadsInput left rest (Err (failure.Refused r)) = IfSome left (λ input. (within_limit input ≡ Err r) × (rest ≡ Some (left_after_reading input)))
-ReadsInput left rest (Err failure.InputFault) = Unit
-ReadsInput left rest (Err failure.Memory) = Unit
-ReadsInput left rest (Err _) = ⊥

@@ -14,14 +14,10 @@ root_failure (stop.Damaged path) = failure.Damaged path
 root_failure stop.FarFailed = failure.RepositoryFault
 root_failure (stop.FarDamaged path) = failure.Damaged path
 
--- a stop of the repository's disk
+-- a stop of the repository's disk: its fault is one of the repository
 abbrev pub repository_failure : Stop → Failure
-repository_failure (stop.Refused r) = failure.Refused r
-repository_failure stop.Memory = failure.Memory
 repository_failure stop.Failed = failure.RepositoryFault
-repository_failure (stop.Damaged path) = failure.Damaged path
-repository_failure stop.FarFailed = failure.RepositoryFault
-repository_failure (stop.FarDamaged path) = failure.Damaged path
+repository_failure e = root_failure e
 
 abbrev pub root_result : {X : Type 0} → Result X Stop → Result X Failure
 root_result (Ok x) = Ok x

@@ -18,7 +18,7 @@ use Rattle.repo_load.specs.Files.{repository_base}
 use Rattle.repo_load.specs.State.{RepositoryState}
 use Rattle.cny_laws.specs.declared.failure.Failure.{Failure}
 use Rattle.cny_laws.specs.declared.opened.Opened.{Opened}
-use Rattle.cny_laws.specs.Call.{ContentsStay, HasOpenedLists, HasOpened, HasTree, HoldsOpened, CallState, AreOpened, NotOpened, OpensRoot, StopsForRepository, StopsForRoot}
+use Rattle.cny_laws.specs.Call.{ContentsStay, HasOpenedLists, HasOpened, HasTree, HasWholeContents, HoldsOpened, IsHeldOf, NamedStay, CallState, AreOpened, NotOpened, OpensRoot, StopsForRepository, StopsForRoot}
 use Rattle.cny_laws.specs.Shown.{KeepsOthers, IsShown}
 use Rattle.cny_laws.specs.Report.{ChangesNothing, End, Reports, status_of}
 use Rattle.system_core.specs.FixedDirs.{fixed_dirs}
@@ -149,11 +149,13 @@ module _ {T P : Type 0} (root_disk : DiskModel T) (repo_disk : DiskModel P) wher
     pub reads : ReadsGiven m.takes_input before.input now.input (Ok bytes)
 
   -- By a state that has what a command works on: the state after it, as on this one, and of which, after a status up to 4, the disks hold
-  -- the database and the catalogue.
-  pub record EndsByOpened (m : Meaning) (input : List ℕ) (s : State) (before now : CallState T P) (end : End) : Type 0 where
+  -- the tree, the database and the catalogue. At every moment from the opening on a crash leaves a root that recovers to the tree and the
+  -- database of the state before or of this one.
+  pub record EndsByOpened (m : Meaning) (input : List ℕ) (s : State) (root : T) (before now : CallState T P) (end : End) : Type 0 where
     pub next : State
     pub ends : CallEnds (OwnOutcome m s input) s next before.out now.out end
     pub holds : status_of end ≤ 4 → HoldsOpened root_disk repo_disk now.root now.repo next
+    pub moments : IsTrue root_disk.tells → LeavesOnly root_disk root now.root (IsHeldOf s next)
 
   -- Both disks were opened: the root first, and then the repository.
   pub record WasOpened (scope : Scope) (m : Meaning) (input : List ℕ) (before now : CallState T P) (end : End) : Type 0 where
@@ -184,11 +186,15 @@ module _ {T P : Type 0} (root_disk : DiskModel T) (repo_disk : DiskModel P) wher
     -- A command that works on the lists alone that were read when the disks were opened touches neither disk, and ends as its outcome on each
     -- state that has them, whatever else the disks tell or store. Where the root is told, so does one that works on its tree and its installed
     -- list alone; and, where the repository is told too, unless it works on the root alone, one that works on the root's tree and on all that
-    -- was read then, and leaves what stands under the names of contents.
+    -- was read then, and leaves what stands under the names of contents. Where both are told, so does one that also works on contents, unless
+    -- a damaged file ended it, on each such state that has the contents which stand whole; and it leaves what stands under the names of those
+    -- that are committed.
     pub by_lists : scope.of_lists ≡ true → (now.root ≡ root) × (now.repo ≡ repo) × ((s : State) → HasOpenedLists opened s → CallEnds (OwnOutcome m s input) s s before.out now.out end)
     pub by_tree : scope.of_tree ≡ true → IsTrue root_disk.tells → (s : State) → HasTree root_disk root opened s → CallEnds (OwnOutcome m s input) s s before.out now.out end
-    pub by_opened : scope.of_opened ≡ true → IsTrue root_disk.tells → (scope.of_root ≡ false → IsTrue repo_disk.tells) → (s : State) → HasOpened root_disk root opened s → EndsByOpened m input s before now end
+    pub by_opened : scope.of_opened ≡ true → IsTrue root_disk.tells → (scope.of_root ≡ false → IsTrue repo_disk.tells) → (s : State) → HasOpened root_disk root opened s → EndsByOpened m input s root before now end
     pub contents_stay : scope.of_opened ≡ true → ContentsStay repo_disk repo now.repo
+    pub by_contents : scope.of_contents ≡ true → IsTrue root_disk.tells → IsTrue repo_disk.tells → status_of end ≤ 7 → (s : State) → HasOpened root_disk root opened s → HasWholeContents repo_disk repo opened s → EndsByOpened m input s root before now end
+    pub named_stay : scope.of_contents ≡ true → NamedStay repo_disk opened.catalogue.troves repo now.repo
 
   -- The disks weren't opened, and nothing else was done; or they were.
   abbrev pub CallReaches : Scope → Meaning → List ℕ → CallState T P → CallState T P → End → Type 0

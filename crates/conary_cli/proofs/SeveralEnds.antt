@@ -60,6 +60,8 @@ module _ {T P : Type 0} {root_disk : DiskModel T} {repo_disk : DiskModel P} (roo
     tree = λ is. absurd (cc is);
     opened = λ is. absurd (cc is);
     contents = λ is. absurd (cc is);
+    by_contents = λ is. absurd (cc is);
+    named = λ is. absurd (cc is);
     lists = λ is. none_listed e none;
     root_read = λ is told. nothing_done root_disk_laws at.at.root;
     repo_read = λ is told. nothing_done repo_disk_laws at.at.repo;

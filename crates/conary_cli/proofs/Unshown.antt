@@ -4,7 +4,7 @@ use Rattle.cny_flow.specs.Flow.{SinkState}
 use Rattle.root_commands.specs.cli-call.tree-disk.Tree.{Tree}
 use Rattle.root_commands.specs.cli-call.tree-disk.Disk.{DiskModel}
 use Rattle.root_commands.proofs.cli-call.tree-disk.Unfailed.{unfailed_weaker}
-use Rattle.root_commands.specs.cli-call.Alone.{ActsOnRepository, AnswersByLists, AnswersByOpened, AnswersByTree, PerformsAlone, PerformsWithin}
+use Rattle.root_commands.specs.cli-call.Alone.{ActsOnRepository, AnswersByContents, AnswersByLists, AnswersByOpened, AnswersByTree, AnswersOpened, PerformsAlone, PerformsWithin}
 use Rattle.root_commands.specs.cli-call.Command.{AnswersAs, Disks, Performs, end_of}
 use Rattle.root_commands.specs.cli-call.Line.{RunsLine, WritesAnswer}
 use Rattle.root_commands.specs.cli-call.cny-laws.declared.failure.Failure.{Failure}
@@ -142,10 +142,17 @@ nothing_written : (result : Result (List ℕ) Failure) (out : SinkState) → Wri
 nothing_written (Ok text) out = record { later = omega arith; wrote = Appends-nil out.written }
 nothing_written (Err e) out = record { later = omega arith; wrote = (refl, refl) }
 
-opened_unshown : {T P : Type 0} (root_disk : DiskModel T) (repo_disk : DiskModel P) (m : Meaning) (input : List ℕ) (old new : Disks T P) (result : Result (List ℕ) Failure) → AnswersByOpened root_disk repo_disk m input old new result
-    → AnswersByOpened root_disk repo_disk (unshown m) input old new (without_text result)
-opened_unshown root_disk repo_disk m input old new (Ok text) done told s has = let by = done told s has in record { next = by.next; answers = answers_unshown m input s by.next (Ok text) by.answers; holds = by.holds }
-opened_unshown root_disk repo_disk m input old new (Err e) done told s has = let by = done told s has in record { next = by.next; answers = answers_unshown m input s by.next (Err e) by.answers; holds = by.holds }
+module _ {T P : Type 0} (root_disk : DiskModel T) (repo_disk : DiskModel P) (m : Meaning) (input : List ℕ) (old new : Disks T P) where
+  state_unshown : (s : State) (result : Result (List ℕ) Failure) → AnswersOpened root_disk repo_disk (m.IsOutcome s input) s old new result → (let n = unshown m in AnswersOpened root_disk repo_disk (n.IsOutcome s input) s old new (without_text result))
+  state_unshown s (Ok text) by = record { next = by.next; answers = answers_unshown m input s by.next (Ok text) by.answers; holds = by.holds; moments = by.moments }
+  state_unshown s (Err e) by = record { next = by.next; answers = answers_unshown m input s by.next (Err e) by.answers; holds = by.holds; moments = by.moments }
+
+  opened_unshown : (result : Result (List ℕ) Failure) → AnswersByOpened root_disk repo_disk m input old new result → AnswersByOpened root_disk repo_disk (unshown m) input old new (without_text result)
+  opened_unshown result done told s has = state_unshown s result (done told s has)
+
+  contents_unshown : (result : Result (List ℕ) Failure) → AnswersByContents root_disk repo_disk m input old new result → AnswersByContents root_disk repo_disk (unshown m) input old new (without_text result)
+  contents_unshown (Ok text) done told repo_told low s has whole = state_unshown s (Ok text) (done told repo_told low s has whole)
+  contents_unshown (Err e) done told repo_told low s has whole = state_unshown s (Err e) (done told repo_told low s has whole)
 
 -- what a command promises that works on so much
 within_unshown : {T P : Type 0} {root_disk : DiskModel T} {repo_disk : DiskModel P} (scope : Scope) (m : Meaning) (input : List ℕ) (old new : Disks T P) (result : Result (List ℕ) Failure) → PerformsWithin root_disk repo_disk scope m input old new result
@@ -157,6 +164,8 @@ within_unshown {root_disk = root_disk} {repo_disk = repo_disk} scope m input old
   tree = λ is. tree_unshown result (done.tree is);
   opened = λ is repo_told. opened_unshown root_disk repo_disk m input old new result (done.opened is repo_told);
   contents = done.contents;
+  by_contents = λ is. contents_unshown root_disk repo_disk m input old new result (done.by_contents is);
+  named = done.named;
   lists = λ is. lists_unshown result (done.lists is);
   root_read = done.root_read;
   repo_read = done.repo_read;

@@ -110,6 +110,17 @@ is_of_opened (command.Erase names replace) = true
 is_of_opened (command.Move way label given) = true
 is_of_opened _ = false
 
+-- the commands that work on the same, and on contents of the repository
+abbrev pub is_of_contents : Command → Bool
+is_of_contents (command.Cook next) = true
+is_of_contents command.Commit = true
+is_of_contents (command.Update specs options resolve) = true
+is_of_contents (command.UpdateByInput options) = true
+is_of_contents (command.Sync options) = true
+is_of_contents (command.Verify full names) = full
+is_of_contents (command.SendChanges from to) = true
+is_of_contents _ = false
+
 -- the commands that only read the root: all but the jobs and `rollback`
 abbrev pub reads_root : Command → Bool
 reads_root (command.Install options) = false
@@ -134,6 +145,7 @@ scope_of c = record {
   of_repository = is_of_repository c;
   of_tree = is_of_tree c;
   of_opened = is_of_opened c;
+  of_contents = is_of_contents c;
   of_lists = is_of_lists c;
   reads_root = reads_root c;
   reads_repository = reads_repository c;

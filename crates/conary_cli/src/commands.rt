@@ -1,6 +1,6 @@
 //! The table of commands: what each takes, and which function performs it.
 ghost use Rattle.std.specs.Prelude.{◌≡◌, List, ℕ, not, true, OnOk};
-ghost use Rattle.root_commands.specs.cli-call.Alone.{AnswersByTree, PerformsAlone};
+ghost use Rattle.root_commands.specs.cli-call.Alone.{AnswersByContents, AnswersByTree, PerformsAlone};
 ghost use Rattle.root_commands.specs.cli-call.Command.{disks, AreReady, Performs};
 ghost use Rattle.root_commands.specs.cli-call.tree-disk.Disk.{Reads};
 ghost use Rattle.conary_cli.specs.Commands.{erasing, meaning, verify, PerformsCommand};
@@ -79,6 +79,7 @@ fn verify<T: TreeDisk, P: TreeDisk>(
     ensures performs { (input : List ℕ) → Performs T.disk P.disk (verify full names.now) input (disks root.old repo.old opened.now) (disks root.new repo.new opened.now) result }
     ensures alone { not full ≡ true → (input : List ℕ) → PerformsAlone T.disk P.disk (verify full names.now) input (disks root.old repo.old opened.now) (disks root.new repo.new opened.now) result }
     ensures tree { not full ≡ true → (input : List ℕ) → AnswersByTree T.disk P.disk (verify full names.now) input (disks root.old repo.old opened.now) (disks root.new repo.new opened.now) result }
+    ensures whole { full ≡ true → (input : List ℕ) → AnswersByContents T.disk P.disk (verify full names.now) input (disks root.old repo.old opened.now) (disks root.new repo.new opened.now) result }
     // Both disks are only read.
     ensures root_read { Reads T.disk root.old root.new (Unit {0}) }
     ensures repo_read { Reads P.disk repo.old repo.new (Unit {0}) }

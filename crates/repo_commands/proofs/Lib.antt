@@ -3,6 +3,7 @@ pub mod MirrorEnds
 mod Mirrored
 pub mod CommitEnds
 pub mod CommitOpened
+pub mod WholeContents
 pub mod MadeVersions
 pub mod KeptContents
 pub mod CookEnds

@@ -140,7 +140,7 @@ module _ {T P : Type 0} {root_disk : DiskModel T} {repo_disk : DiskModel P} (roo
   troves_in s has = ap (λ (c : CatalogueParts). c.troves) (sym has.catalogue)
 
   fails_opened : (f : Fault) → ((refused : Refusal) → f ≡ fault.Refused refused → (s : State) → opened.catalogue.troves ≡ troves_of s.repository.commits → HasConfig (tree_of s.root) (Ok config) → Moves s way label given (Err refused)) → Answered (failure_of_fault f)
-  fails_opened f refuses = fault_opened (move way label given) input (disks root repo opened) (disks root' repo opened) ready (λ told. (configured.same told).same.reads) (λ told. refl) f
+  fails_opened f refuses = fault_opened root_disk_laws (move way label given) input (disks root repo opened) (disks root' repo opened) ready configured.same (λ told. refl) f
       (λ refused is told s has. refuses refused is s (troves_in s has) (found_in told s has))
 
   pub meant_opened : (f : Fault) → EndsAs (Means opened.catalogue.troves config given) (Err f) → Answered (failure_of_fault f)
@@ -152,6 +152,6 @@ module _ {T P : Type 0} {root_disk : DiskModel T} {repo_disk : DiskModel P} (roo
 
     pub committed_opened : (made : List TroveParts) → IsMovedExpansion way label opened.catalogue.troves id made → (new : Disks T P) (result : Result (List ℕ) Failure)
         → AnswersByOpened root_disk repo_disk (commit_of (set_of_troves made)) input (disks root' repo opened) new result → AnswersByOpened root_disk repo_disk (move way label given) input (disks root repo opened) new result
-    committed_opened made is new result done = opened_since (commit_of (set_of_troves made)) (move way label given) input input (disks root repo opened) (disks root' repo opened) new result
+    committed_opened made is new result done = opened_since root_disk_laws (commit_of (set_of_troves made)) (move way label given) input input (disks root repo opened) (disks root' repo opened) new result ready
         (root_read root_disk_laws repo_disk_laws root root' repo opened configured.later configured.same) refl
         (λ told s has outcome commits. moved_so way label given s opened.catalogue.troves (troves_in s has) config (found_in told s has) id is_meant made is outcome commits) done

@@ -2,6 +2,7 @@
 ghost use Rattle.std.specs.Prelude.{List, ℕ, OnOk};
 ghost use Rattle.cli_call.specs.trove-stream.Installed.{IsRising};
 ghost use Rattle.repo_index.specs.Catalogue.{AreCommitted};
+ghost use Rattle.cli_call.specs.Alone.{AnswersByContents};
 ghost use Rattle.cli_call.specs.Command.{disks, AreReady, Performs};
 ghost use Rattle.cli_call.specs.tree-disk.Disk.{Reads};
 ghost use Rattle.repo_commands.specs.Sending.{changeset, SendsFrom};
@@ -46,6 +47,9 @@ pub fn send_changes<T: TreeDisk, P: TreeDisk>(
 ) -> Result<Bytes, Failure>
     requires { AreReady T.disk P.disk (disks root.old repo.old opened.now) }
     ensures performs { (input : List ℕ) → Performs T.disk P.disk (changeset from.now to.now) input (disks root.old repo.old opened.now)
+        (disks root.new repo.new opened.now) result }
+    // Also where other contents of the repository, or records and saved contents of the root, are damaged.
+    ensures whole { (input : List ℕ) → AnswersByContents T.disk P.disk (changeset from.now to.now) input (disks root.old repo.old opened.now)
         (disks root.new repo.new opened.now) result }
     // Both disks are only read.
     ensures root_read { Reads T.disk root.old root.new (Unit {0}) }

@@ -6,6 +6,7 @@ use Rattle.cli_call.specs.cny-base.declared.refusal.Refusal.{Refusal}
 use Rattle.cli_call.specs.cny-base.Reserved.{is_reserved}
 use Rattle.cli_call.specs.tree-disk.Disk.{DiskModel, HasRead, IsDisk}
 use Rattle.cli_call.specs.tree-disk.Tree.{AgreesOutside}
+use Rattle.local_db.specs.declared.db.Db.{Db}
 use Rattle.local_db.specs.Installed.{IsInstalled}
 use Rattle.cli_call.proofs.RootLaws.{stored_outside}
 use Rattle.cli_call.specs.trove-stream.declared.parts.TroveParts.{TroveParts}
@@ -14,7 +15,7 @@ use Rattle.local_db.specs.Stores.{StoresIn}
 use Rattle.cli_call.specs.cny-laws.declared.failure.Failure.{Failure}
 use Rattle.cli_call.specs.cny-laws.declared.opened.Opened.{Opened}
 use Rattle.cli_call.specs.Alone.{AnswersByTree, PerformsAlone}
-use Rattle.cli_call.specs.cny-laws.Call.{HasTree}
+use Rattle.cli_call.specs.cny-laws.Call.{HasOpened, HasTree}
 use Rattle.cli_call.proofs.AloneLaws.{AnswersAlone, AnswersWhere, tree_reading, where_weaker}
 use Rattle.cli_call.proofs.Answered as answers
 use Rattle.cli_call.proofs.Answered.{result_of}
@@ -31,6 +32,10 @@ pub record IsSeen {T : Type 0} (root_disk : DiskModel T) (root : T) (opened : Op
   pub list : opened.db.installed ≡ s.root.installed
   pub rules : IsInstalled s.root.installed
   pub outer : AgreesOutside is_reserved (root_disk.reads root) (tree_of s.root)
+
+-- each state that has what was read when the disks were opened is one
+pub opened_seen : {T : Type 0} {root_disk : DiskModel T} (root : T) (opened : Opened) (s : State) → HasOpened root_disk root opened s → IsSeen root_disk root opened s
+opened_seen root opened s has = let system = has.system in record { list = ap (λ (d : Db). d.installed) (sym has.database); rules = system.list; outer = has.outer }
 
 module _ {T P : Type 0} {root_disk : DiskModel T} {repo_disk : DiskModel P} (law : OneDatabase) (m : Disks T P) (ready : AreReady root_disk repo_disk m) where
   -- the installed troves are those of each system that the root stores

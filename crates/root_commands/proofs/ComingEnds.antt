@@ -16,19 +16,26 @@ use Rattle.cli_call.specs.cny-laws.State.{Effect, State}
 use Rattle.root_commands.specs.Update.{UpdatesBy, UpdatesTo}
 use Rattle.cli_call.proofs.system-core.Held.{OneDatabase}
 
+-- on a state with this installed list
+module _ (s : State) (installed : List TroveParts) (same_list : installed ≡ s.root.installed) (options : Options) (set : ChangeSet) where
+  pub refused_on : (f : Fault) → IfRefused (IsFirstRefused installed set.parts) f → (refused : Refusal) → f ≡ fault.Refused refused → UpdatesBy options set s (Err refused)
+  refused_on f is refused same = inr (record {
+    refusal = refused;
+    refused = subst (λ (list : List TroveParts). IsFirstRefused list set.parts refused) same_list (subst (IfRefused (IsFirstRefused installed set.parts)) same is);
+    is = refl;
+  })
+
+  pub made_on : (troves : List TroveParts) → AreMade installed set.parts troves → (outcome : Result Effect Refusal) → UpdatesTo options set.contents troves s outcome → UpdatesBy options set s outcome
+  made_on troves are outcome is = inl (record { value = troves; found = subst (λ (list : List TroveParts). AreMade list set.parts troves) same_list are; rest = is })
+
 module _ {T P : Type 0} {root_disk : DiskModel T} {repo_disk : DiskModel P} (law : OneDatabase) (old : Disks T P) (ready : AreReady root_disk repo_disk old) (told : IsTrue root_disk.tells) (s : State) (stands : StandsFor root_disk repo_disk old s) where
   -- the list at hand is that of the system
   pub same_installed : old.opened.db.installed ≡ s.root.installed
   same_installed = let held = held_database law (root_disk.reads old.root) old.opened.db s.root (ready.root told).holds stands.root.stored in held.list
 
   module _ (options : Options) (set : ChangeSet) where
-    refused_by : (f : Fault) → IfRefused (IsFirstRefused old.opened.db.installed set.parts) f → (refused : Refusal) → f ≡ fault.Refused refused → IsFirstRefused s.root.installed set.parts refused
-    refused_by f is refused same =
-        subst (λ (list : List TroveParts). IsFirstRefused list set.parts refused) same_installed
-        (subst (IfRefused (IsFirstRefused old.opened.db.installed set.parts)) same is)
-
     pub set_refused : (f : Fault) → IfRefused (IsFirstRefused old.opened.db.installed set.parts) f → (refused : Refusal) → f ≡ fault.Refused refused → UpdatesBy options set s (Err refused)
-    set_refused f is refused same = inr (record { refusal = refused; refused = refused_by f is refused same; is = refl })
+    set_refused f is refused same = refused_on s old.opened.db.installed same_installed options set f is refused same
 
     pub set_made : (troves : List TroveParts) → AreMade old.opened.db.installed set.parts troves → (outcome : Result Effect Refusal) → UpdatesTo options set.contents troves s outcome → UpdatesBy options set s outcome
-    set_made troves are outcome is = inl (record { value = troves; found = subst (λ (list : List TroveParts). AreMade list set.parts troves) same_installed are; rest = is })
+    set_made troves are outcome is = made_on s old.opened.db.installed same_installed options set troves are outcome is

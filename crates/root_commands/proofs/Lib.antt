@@ -1,6 +1,7 @@
 pub mod Answering
 pub mod Verified
 pub mod VerifyEnds
+pub mod FoundByMap
 pub mod FullEnds
 pub mod TakingBack
 pub mod RollEnds
@@ -15,6 +16,7 @@ pub mod JobOpened
 pub mod InstallEnds
 pub mod MoreAnswers
 pub mod FarJobs
+pub mod WholeJobs
 pub mod ComingEnds
 pub mod SpecEnds
 pub mod SyncEnds

@@ -61,6 +61,36 @@ unreached troves ids fault.Memory is = tt
 pub refused_as : {A : Type 0} (Test : Result A Refusal → Type 0) (f : Fault) → EndsAs Test (Err f) → (refused : Refusal) → f ≡ fault.Refused refused → Test (Err refused)
 refused_as Test f ends refused is = subst (λ (e : Fault). EndsAs Test (Err e)) is ends
 
+-- ---- on a state with these lists and this configuration
+
+module _ (s : State) (committed installed : List TroveParts) (same_committed : committed ≡ troves_of s.repository.commits) (same_list : installed ≡ s.root.installed) (options : Options) (resolve : Bool) (givens : List GivenSpec) (config : Config) (configured : HasConfig (tree_of s.root) (Ok config)) where
+  pub unmeant_on : (refused : Refusal) → MeanAll committed config givens (Err refused) → UpdatesFrom options resolve givens s (Err refused)
+  unmeant_on refused is = inl (record {
+    value = config;
+    found = configured;
+    rest = inr (record { refusal = refused; refused = subst (λ (t : List TroveParts). MeanAll t config givens (Err refused)) same_committed is; is = refl });
+  })
+
+  module _ (ids : List TroveId) (meant : MeanAll committed config givens (Ok ids)) where
+    then : (outcome : Result Effect Refusal) → AndThen (BringAll resolve (troves_of s.repository.commits) s.root.installed config ids) (λ (troves : List TroveParts). UpdatesTo options [] troves s) outcome → UpdatesFrom options resolve givens s outcome
+    then outcome is = inl (record {
+      value = config;
+      found = configured;
+      rest = inl (record { value = ids; found = subst (λ (t : List TroveParts). MeanAll t config givens (Ok ids)) same_committed meant; rest = is });
+    })
+
+    -- what was sought of the lists at hand is so of those of the state
+    brought : (found : Result (List TroveParts) Refusal) → BringAll resolve committed installed config ids found → BringAll resolve (troves_of s.repository.commits) s.root.installed config ids found
+    brought found is =
+        subst (λ (t : List TroveParts). BringAll resolve t s.root.installed config ids found) same_committed
+        (subst (λ (list : List TroveParts). BringAll resolve committed list config ids found) same_list is)
+
+    pub unbrought_on : (refused : Refusal) → BringAll resolve committed installed config ids (Err refused) → UpdatesFrom options resolve givens s (Err refused)
+    unbrought_on refused is = then (Err refused) (inr (record { refusal = refused; refused = brought (Err refused) is; is = refl }))
+
+    pub updated_on : (troves : List TroveParts) → BringAll resolve committed installed config ids (Ok troves) → (outcome : Result Effect Refusal) → UpdatesTo options [] troves s outcome → UpdatesFrom options resolve givens s outcome
+    updated_on troves is outcome updates = then outcome (inl (record { value = troves; found = brought (Ok troves) is; rest = updates }))
+
 -- ---- by a state that the disks store
 
 module _ {T P : Type 0} {root_disk : DiskModel T} {repo_disk : DiskModel P} (law : CatalogueIs) (database : OneDatabase) (options : Options) (resolve : Bool) (givens : List GivenSpec) (old : Disks T P) (ready : AreReady root_disk repo_disk old)
@@ -68,35 +98,21 @@ module _ {T P : Type 0} {root_disk : DiskModel T} {repo_disk : DiskModel P} (law
   troves_is : old.opened.catalogue.troves ≡ troves_of s.repository.commits
   troves_is = troves_are law old ready told s stands
 
+  installed_is : old.opened.db.installed ≡ s.root.installed
+  installed_is = same_installed database old ready root_told s stands
+
   configured : HasConfig (tree_of s.root) (Ok config)
   configured = config_of old (Ok config) (has root_told) s stands
 
   pub none_meant : (refused : Refusal) → MeanAll old.opened.catalogue.troves config givens (Err refused) → UpdatesFrom options resolve givens s (Err refused)
-  none_meant refused is = inl (record {
-    value = config;
-    found = configured;
-    rest = inr (record { refusal = refused; refused = subst (λ (t : List TroveParts). MeanAll t config givens (Err refused)) troves_is is; is = refl });
-  })
+  none_meant refused is = unmeant_on s old.opened.catalogue.troves old.opened.db.installed troves_is installed_is options resolve givens config configured refused is
 
   module _ (ids : List TroveId) (meant : MeanAll old.opened.catalogue.troves config givens (Ok ids)) where
-    then : (outcome : Result Effect Refusal) → AndThen (BringAll resolve (troves_of s.repository.commits) s.root.installed config ids) (λ (troves : List TroveParts). UpdatesTo options [] troves s) outcome → UpdatesFrom options resolve givens s outcome
-    then outcome is = inl (record {
-      value = config;
-      found = configured;
-      rest = inl (record { value = ids; found = subst (λ (t : List TroveParts). MeanAll t config givens (Ok ids)) troves_is meant; rest = is });
-    })
-
-    -- what was sought of the lists at hand is so of those of the state
-    brought : (found : Result (List TroveParts) Refusal) → BringAll resolve old.opened.catalogue.troves old.opened.db.installed config ids found → BringAll resolve (troves_of s.repository.commits) s.root.installed config ids found
-    brought found is =
-        subst (λ (t : List TroveParts). BringAll resolve t s.root.installed config ids found) troves_is
-        (subst (λ (list : List TroveParts). BringAll resolve old.opened.catalogue.troves list config ids found) (same_installed database old ready root_told s stands) is)
-
     pub none_brought : (refused : Refusal) → BringAll resolve old.opened.catalogue.troves old.opened.db.installed config ids (Err refused) → UpdatesFrom options resolve givens s (Err refused)
-    none_brought refused is = then (Err refused) (inr (record { refusal = refused; refused = brought (Err refused) is; is = refl }))
+    none_brought refused is = unbrought_on s old.opened.catalogue.troves old.opened.db.installed troves_is installed_is options resolve givens config configured ids meant refused is
 
     pub all_updated : (troves : List TroveParts) → BringAll resolve old.opened.catalogue.troves old.opened.db.installed config ids (Ok troves) → (outcome : Result Effect Refusal) → UpdatesTo options [] troves s outcome → UpdatesFrom options resolve givens s outcome
-    all_updated troves is outcome updates = then outcome (inl (record { value = troves; found = brought (Ok troves) is; rest = updates }))
+    all_updated troves is outcome updates = updated_on s old.opened.catalogue.troves old.opened.db.installed troves_is installed_is options resolve givens config configured ids meant troves is outcome updates
 
 -- ---- committed troves record no forbidden path
 

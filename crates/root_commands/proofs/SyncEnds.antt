@@ -17,7 +17,9 @@ use Rattle.sys_model.specs.RootModel.{model_path, HasModel, HasModelIn, ReadsMod
 use Rattle.sys_model.specs.Wanted.{Wants}
 use Rattle.sys_model.proofs.ModelSizes.{file_of}
 use Rattle.repo_load.specs.State.{troves_of}
+use Rattle.cli_call.specs.Alone.{AnswersByOpened}
 use Rattle.cli_call.specs.Command.{Disks, disks, AreReady, Performs, StandsFor}
+use Rattle.cli_call.specs.cny-laws.Call.{HasOpened}
 use Rattle.cli_call.specs.cny-laws.State.{tree_of, Effect, Meaning, State}
 use Rattle.cli_call.specs.cny-laws.Stops.{root_result}
 use Rattle.cli_call.specs.cny-laws.Store.{IsStore}
@@ -26,6 +28,7 @@ use Rattle.cli_call.specs.cny-laws.declared.failure.Failure.{Failure}
 use Rattle.cli_call.specs.cny-laws.declared.failure.Failure.TheVariants as failure
 use Rattle.cli_call.specs.cny-laws.declared.opened.Opened.{Opened}
 use Rattle.cli_call.proofs.CommandLaws.{performs_reading}
+use Rattle.cli_call.proofs.OpenedEnds.{memory_opened, refused_opened, root_fault_opened}
 use Rattle.cli_call.proofs.ReadingEnds.{root_read, troves_are, CatalogueIs}
 use Rattle.cli_call.proofs.RootLaws.{root_laws, stored_outside}
 use Rattle.root_commands.specs.Syncing.{AdoptsList, AdoptsWanted}
@@ -43,6 +46,21 @@ same_model t u r same has = subst (λ (o : Option Node). HasModelIn (file_of o) 
 pub model_made : {D : Type 0} (disk : DiskModel D) (old new : D) (r : Result Model Stop) → ReadsModel disk old new r → (model : Model) → root_result r ≡ Ok model → ReadsModel disk old new (Ok model)
 model_made disk old new (Ok made) reads model is = subst (λ (x : Result Model Failure). IfOk x (λ k. ReadsModel disk old new (Ok k))) is reads
 model_made disk old new (Err e) reads model is = absurd (cc is)
+
+-- each state that has what was read when the disks were opened has the model that was read
+pub model_opened : {T : Type 0} {root_disk : DiskModel T} (root : T) (opened : Opened) (r : Result Model Refusal) → HasModel (root_disk.reads root) r → (s : State) → HasOpened root_disk root opened s → HasModel (tree_of s.root) r
+model_opened {root_disk = root_disk} root opened r has s is = same_model (root_disk.reads root) (tree_of s.root) r (is.outer model_path foreign) has
+
+-- what is wanted of these troves is wanted of those of a state with them
+module _ (s : State) (committed : List TroveParts) (same : committed ≡ troves_of s.repository.commits) (options : Options) (config : Config) (model : Model) where
+  wants : (r : Result (List TroveParts) Refusal) → Wants committed config model.lines r → Wants (troves_of s.repository.commits) config model.lines r
+  wants r is = subst (λ (t : List TroveParts). Wants t config model.lines r) same is
+
+  pub unwanted_on : (refused : Refusal) → Wants committed config model.lines (Err refused) → AdoptsWanted options config model s (Err refused)
+  unwanted_on refused is = inr (record { refusal = refused; refused = wants (Err refused) is; is = refl })
+
+  pub adopted_on : (list : List TroveParts) → Wants committed config model.lines (Ok list) → (outcome : Result Effect Refusal) → AdoptsList options list s outcome → AdoptsWanted options config model s outcome
+  adopted_on list is outcome adopts = inl (record { value = list; found = wants (Ok list) is; rest = adopts })
 
 module _ {T P : Type 0} {root_disk : DiskModel T} {repo_disk : DiskModel P} where
   -- the state has the model that was read
@@ -70,11 +88,27 @@ module _ {T P : Type 0} {root_disk : DiskModel T} {repo_disk : DiskModel P} wher
   -- ---- the list
 
   module _ (law : CatalogueIs) (options : Options) (config : Config) (model : Model) (old : Disks T P) (ready : AreReady root_disk repo_disk old) (told : IsTrue repo_disk.tells) (s : State) (stands : StandsFor root_disk repo_disk old s) where
-    wants : (r : Result (List TroveParts) Refusal) → Wants old.opened.catalogue.troves config model.lines r → Wants (troves_of s.repository.commits) config model.lines r
-    wants r is = subst (λ (t : List TroveParts). Wants t config model.lines r) (troves_are law old ready told s stands) is
-
     pub none_wanted : (refused : Refusal) → Wants old.opened.catalogue.troves config model.lines (Err refused) → AdoptsWanted options config model s (Err refused)
-    none_wanted refused is = inr (record { refusal = refused; refused = wants (Err refused) is; is = refl })
+    none_wanted refused is = unwanted_on s old.opened.catalogue.troves (troves_are law old ready told s stands) options config model refused is
 
     pub list_adopted : (list : List TroveParts) → Wants old.opened.catalogue.troves config model.lines (Ok list) → (outcome : Result Effect Refusal) → AdoptsList options list s outcome → AdoptsWanted options config model s outcome
-    list_adopted list is outcome adopts = inl (record { value = list; found = wants (Ok list) is; rest = adopts })
+    list_adopted list is outcome adopts = adopted_on s old.opened.catalogue.troves (troves_are law old ready told s stands) options config model list is outcome adopts
+
+  -- ---- by what was read when the disks were opened
+
+  module _ (root_disk_laws : IsDisk root_disk) (m : Meaning) (input : List ℕ) (root root' : T) (repo : P) (opened : Opened) (ready : AreReady root_disk repo_disk (disks root repo opened)) where
+    abbrev pub StoppedOpened : Failure → Type 0
+    StoppedOpened f = AnswersByOpened root_disk repo_disk m input (disks root repo opened) (disks root' repo opened) (Err f)
+
+    stopped_opened : ((s : State) (refused : Refusal) → HasModel (tree_of s.root) (Err refused) → m.IsOutcome s input (Err refused)) → (e : Stop) → ReadsModel root_disk root root' (Err e) → IfErr (let r : Result Model Stop = Err e in root_result r) StoppedOpened
+    stopped_opened refuses (stop.Refused refused) reads = refused_opened root_disk_laws m input (disks root repo opened) (disks root' repo opened) ready reads.same (λ told. refl) refused
+        (λ told s has. refuses s refused (model_opened root opened (Err refused) (reads.ends told) s has))
+    stopped_opened refuses stop.Failed reads = root_fault_opened root_disk_laws m input (disks root repo opened) (disks root' repo opened) ready reads.same
+    stopped_opened refuses stop.Memory reads = memory_opened root_disk_laws m input (disks root repo opened) (disks root' repo opened) ready reads.same
+    stopped_opened refuses (stop.Damaged path) reads = absurd reads.ends
+    stopped_opened refuses stop.FarFailed reads = absurd reads.ends
+    stopped_opened refuses (stop.FarDamaged path) reads = absurd reads.ends
+
+    pub model_stopped_opened : ((s : State) (refused : Refusal) → HasModel (tree_of s.root) (Err refused) → m.IsOutcome s input (Err refused)) → (r : Result Model Stop) → ReadsModel root_disk root root' r → (f : Failure) → root_result r ≡ Err f → StoppedOpened f
+    model_stopped_opened refuses (Ok model) reads f is = absurd (cc is)
+    model_stopped_opened refuses (Err e) reads f is = subst (λ (x : Result Model Failure). IfErr x StoppedOpened) is (stopped_opened refuses e reads)

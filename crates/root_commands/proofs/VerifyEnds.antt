@@ -34,7 +34,7 @@ Searched root_disk contents names list root root' far far' r =
     Searches root_disk contents (λ answers tree found. IsVerified answers tree (asked names list) found) (λ told tree. IsNotInstalled list names) (λ told answers tree. IsTrue told → LacksOne answers tree (records (asked names list))) root root' far far' r
 
 -- what is found on the root's disk is what is found of each state that is seen, and of each system that it stores
-found_of_seen : {T : Type 0} (root_disk : DiskModel T) (root : T) (opened : Opened) (names : List (List ℕ)) (map : ContentMap) (s : State) → IsSeen root_disk root opened s
+pub found_of_seen : {T : Type 0} (root_disk : DiskModel T) (root : T) (opened : Opened) (names : List (List ℕ)) (map : ContentMap) (s : State) → IsSeen root_disk root opened s
     → verified map (root_disk.reads root) (asked names opened.db.installed) ≡ verified map (tree_of s.root) (asked names s.root.installed)
 found_of_seen root_disk root opened names map s seen =
     ap (λ (l : List TroveParts). verified map (root_disk.reads root) (asked names l)) seen.list

@@ -1,6 +1,7 @@
 //! The command that installs what specifications mean.
 ghost use Rattle.std.specs.Prelude.{IfOk, List, ℕ, OnOk};
 ghost use Rattle.repo_load.specs.Loading.{IsCatalogue};
+ghost use Rattle.cli_call.specs.Alone.{AnswersByContents};
 ghost use Rattle.cli_call.specs.Command.{disks, AreReady, Performs};
 ghost use Rattle.cli_call.specs.tree-disk.Disk.{Reads};
 ghost use Rattle.trove_spec.specs.AndThen.{EndsAs};
@@ -97,6 +98,9 @@ pub fn update_specs<T: TreeDisk, P: TreeDisk>(
 ) -> Result<Text, Failure>
     requires { AreReady T.disk P.disk (disks root.old repo.old opened.old) }
     ensures performs { (input : List ℕ) → Performs T.disk P.disk (spec.update_specs options.now resolve givens.now) input (disks root.old repo.old opened.old)
+        (disks root.new repo.new opened.new) result }
+    // Also where other contents of the repository, or records and saved contents of the root, are damaged.
+    ensures whole { (input : List ℕ) → AnswersByContents T.disk P.disk (spec.update_specs options.now resolve givens.now) input (disks root.old repo.old opened.old)
         (disks root.new repo.new opened.new) result }
     // The repository is only read.
     ensures repo_read { Reads P.disk repo.old repo.new (Unit {0}) }

@@ -1,12 +1,13 @@
 //! The command that brings the root to what its model file says.
 ghost use Rattle.std.specs.Prelude.{List, ℕ, OnOk};
+ghost use Rattle.cli_call.specs.Alone.{AnswersByContents};
 ghost use Rattle.cli_call.specs.Command.{disks, AreReady, Performs};
 ghost use Rattle.cli_call.specs.tree-disk.Disk.{Reads};
 ghost use Rattle.cli_call.specs.system-core.Lists.{AllPathsAllowed};
 ghost use Rattle.root_commands.specs.Syncing as spec;
 
 use cli_call::cny_base::{Options, Text};
-use cli_call::system_core::adopt;
+use cli_call::system_core::{adopt, troves_keep_rules};
 use cli_call::tree_disk::TreeDisk;
 use cli_call::trove_stream::Installed;
 use cli_call::{Failure, Opened, on_root, store_laws};
@@ -30,6 +31,9 @@ fn adopt_list<T: TreeDisk, P: TreeDisk>(
     requires ready { AreReady T.disk P.disk (disks root.old repo.old opened.old) }
     ensures performs { (input : List ℕ) → Performs T.disk P.disk (spec.adopt_list options.now list) input (disks root.old repo.old opened.old)
         (disks root.new repo.new opened.new) result }
+    // Also where other contents of the repository, or records and saved contents of the root, are damaged.
+    ensures whole { (input : List ℕ) → AnswersByContents T.disk P.disk (spec.adopt_list options.now list) input (disks root.old repo.old opened.old)
+        (disks root.new repo.new opened.new) result }
     // The repository is only read.
     ensures repo_read { Reads P.disk repo.old repo.new (Unit {0}) }
     // Where it is done, a further command may begin.
@@ -38,6 +42,7 @@ fn adopt_list<T: TreeDisk, P: TreeDisk>(
     store_laws();
     distinct_databases();
     stored_state();
+    troves_keep_rules(list.troves());
     let mut far = RepoContents::new(repo, &opened.catalogue);
     let done = on_root(adopt(alloc, root, &mut opened.db, list, &mut far, options))?;
     Ok(changes_text(alloc, done.changes.get())?)
@@ -55,6 +60,9 @@ fn adopt_wanted<T: TreeDisk, P: TreeDisk>(
 ) -> Result<Text, Failure>
     requires { AreReady T.disk P.disk (disks root.old repo.old opened.old) }
     ensures performs { (input : List ℕ) → Performs T.disk P.disk (spec.adopt_wanted options.now config.now model.now) input (disks root.old repo.old opened.old)
+        (disks root.new repo.new opened.new) result }
+    // Also where other contents of the repository, or records and saved contents of the root, are damaged.
+    ensures whole { (input : List ℕ) → AnswersByContents T.disk P.disk (spec.adopt_wanted options.now config.now model.now) input (disks root.old repo.old opened.old)
         (disks root.new repo.new opened.new) result }
     // The repository is only read.
     ensures repo_read { Reads P.disk repo.old repo.new (Unit {0}) }
@@ -79,6 +87,9 @@ fn sync_with<T: TreeDisk, P: TreeDisk>(
     requires { AreReady T.disk P.disk (disks root.old repo.old opened.old) }
     ensures performs { (input : List ℕ) → Performs T.disk P.disk (spec.sync_with options.now config.now) input (disks root.old repo.old opened.old)
         (disks root.new repo.new opened.new) result }
+    // Also where other contents of the repository, or records and saved contents of the root, are damaged.
+    ensures whole { (input : List ℕ) → AnswersByContents T.disk P.disk (spec.sync_with options.now config.now) input (disks root.old repo.old opened.old)
+        (disks root.new repo.new opened.new) result }
     // The repository is only read.
     ensures repo_read { Reads P.disk repo.old repo.new (Unit {0}) }
     // Where it is done, a further command may begin.
@@ -101,6 +112,9 @@ pub fn sync_to_model<T: TreeDisk, P: TreeDisk>(
 ) -> Result<Text, Failure>
     requires { AreReady T.disk P.disk (disks root.old repo.old opened.old) }
     ensures performs { (input : List ℕ) → Performs T.disk P.disk (spec.sync options.now) input (disks root.old repo.old opened.old)
+        (disks root.new repo.new opened.new) result }
+    // Also where other contents of the repository, or records and saved contents of the root, are damaged.
+    ensures whole { (input : List ℕ) → AnswersByContents T.disk P.disk (spec.sync options.now) input (disks root.old repo.old opened.old)
         (disks root.new repo.new opened.new) result }
     // The repository is only read.
     ensures repo_read { Reads P.disk repo.old repo.new (Unit {0}) }

@@ -4,6 +4,7 @@ ghost use Rattle.std.specs.List.Sorted.{IsStrictlySortedBy};
 ghost use Rattle.sha1.specs.Sha1.{sha1};
 ghost use Rattle.cli_call.specs.change-set.declared.change.Carried as carried_content;
 ghost use Rattle.cli_call.specs.change-set.ChangeSet.{content_cmp, HasContents};
+ghost use Rattle.cli_call.specs.Alone.{AnswersByContents};
 ghost use Rattle.cli_call.specs.Command.{disks, AreReady, Performs};
 ghost use Rattle.cli_call.specs.tree-disk.Disk.{Reads};
 ghost use Rattle.cli_call.specs.system-core.Lists.{AllPathsAllowed};
@@ -11,7 +12,7 @@ ghost use Rattle.root_commands.specs.Update as spec;
 
 use cli_call::change_set::{Carried, ChangeSet, decode};
 use cli_call::cny_base::{Options, Text};
-use cli_call::system_core::update;
+use cli_call::system_core::{troves_keep_rules, update};
 use cli_call::tree_disk::TreeDisk;
 use cli_call::trove_stream::Trove;
 use cli_call::{Failure, Opened, on_root, store_laws};
@@ -37,6 +38,9 @@ pub(crate) fn update_to<T: TreeDisk, P: TreeDisk>(
     requires ready { AreReady T.disk P.disk (disks root.old repo.old opened.old) }
     ensures performs { (input : List ℕ) → Performs T.disk P.disk (spec.update_to options.now carried.now troves.now) input (disks root.old repo.old opened.old)
         (disks root.new repo.new opened.new) result }
+    // Also where other contents of the repository, or records and saved contents of the root, are damaged.
+    ensures whole { (input : List ℕ) → AnswersByContents T.disk P.disk (spec.update_to options.now carried.now troves.now) input (disks root.old repo.old opened.old)
+        (disks root.new repo.new opened.new) result }
     // The repository is only read.
     ensures repo_read { Reads P.disk repo.old repo.new (Unit {0}) }
     // Where it is done, a further command may begin.
@@ -45,6 +49,7 @@ pub(crate) fn update_to<T: TreeDisk, P: TreeDisk>(
     store_laws();
     distinct_databases();
     stored_state();
+    troves_keep_rules(troves);
     let mut far = RepoContents::new(repo, &opened.catalogue);
     let done = on_root(update(
         alloc,
@@ -70,6 +75,9 @@ fn update_by<T: TreeDisk, P: TreeDisk>(
     requires contents { HasContents set.now }
     requires ready { AreReady T.disk P.disk (disks root.old repo.old opened.old) }
     ensures performs { (input : List ℕ) → Performs T.disk P.disk (spec.update_by options.now set.now) input (disks root.old repo.old opened.old)
+        (disks root.new repo.new opened.new) result }
+    // Also where other contents of the repository, or records and saved contents of the root, are damaged.
+    ensures whole { (input : List ℕ) → AnswersByContents T.disk P.disk (spec.update_by options.now set.now) input (disks root.old repo.old opened.old)
         (disks root.new repo.new opened.new) result }
     // The repository is only read.
     ensures repo_read { Reads P.disk repo.old repo.new (Unit {0}) }
@@ -104,6 +112,8 @@ pub fn update_input<T: TreeDisk, P: TreeDisk>(
 ) -> Result<Text, Failure>
     requires { AreReady T.disk P.disk (disks root.old repo.old opened.old) }
     ensures performs { Performs T.disk P.disk (spec.update_input options.now) input.now (disks root.old repo.old opened.old) (disks root.new repo.new opened.new) result }
+    // Also where other contents of the repository, or records and saved contents of the root, are damaged.
+    ensures whole { AnswersByContents T.disk P.disk (spec.update_input options.now) input.now (disks root.old repo.old opened.old) (disks root.new repo.new opened.new) result }
     // The repository is only read.
     ensures repo_read { Reads P.disk repo.old repo.new (Unit {0}) }
     // Where it is done, a further command may begin.

@@ -1,6 +1,6 @@
 //! The commands that compare the root with what its troves record.
 ghost use Rattle.std.specs.Prelude.{List, ℕ, OnOk};
-ghost use Rattle.cli_call.specs.Alone.{AnswersByTree, PerformsAlone};
+ghost use Rattle.cli_call.specs.Alone.{AnswersByContents, AnswersByTree, PerformsAlone};
 ghost use Rattle.cli_call.specs.Command.{disks, AreReady, Performs};
 ghost use Rattle.cli_call.specs.tree-disk.Disk.{Reads};
 ghost use Rattle.root_commands.specs.Verifying as spec;
@@ -54,6 +54,9 @@ pub fn verify_fully<T: TreeDisk, P: TreeDisk>(
 ) -> Result<Text, Failure>
     requires { AreReady T.disk P.disk (disks root.old repo.old opened.now) }
     ensures performs { (input : List ℕ) → Performs T.disk P.disk (spec.verify_fully names.now) input (disks root.old repo.old opened.now)
+        (disks root.new repo.new opened.now) result }
+    // Also where other contents of the repository, or records and saved contents of the root, are damaged.
+    ensures whole { (input : List ℕ) → AnswersByContents T.disk P.disk (spec.verify_fully names.now) input (disks root.old repo.old opened.now)
         (disks root.new repo.new opened.now) result }
     // Both disks are only read.
     ensures root_read { Reads T.disk root.old root.new (Unit {0}) }

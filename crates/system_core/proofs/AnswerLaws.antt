@@ -1,6 +1,7 @@
 -- What a job answers on every disk, from the tests on.
 use Rattle.std.proofs.Common.{◌≡◌, ◌⊎◌, ⊎_elim, List, Result, Ok, Err, IsErrAnd, refl, sym, subst, arith}
-use Rattle.std.specs.Prelude.{IfErr, Option, ℕ}
+use Rattle.std.specs.Prelude.{IfErr, IsTrue, Option, Some, None, ℕ}
+use Rattle.rollback_stack.specs.cny-base.Reserved.{is_reserved}
 use Rattle.rollback_stack.specs.cny-base.Stop.{stop_of_fault}
 use Rattle.rollback_stack.specs.cny-base.declared.refusal.Fault.{Fault}
 use Rattle.rollback_stack.specs.cny-base.declared.refusal.Fault.TheVariants as fault
@@ -12,6 +13,8 @@ use Rattle.rollback_stack.specs.trove-stream.declared.parts.TroveParts.{TrovePar
 use Rattle.rollback_stack.specs.tree-disk.Disk.{DiskModel, HasRead}
 use Rattle.rollback_stack.specs.content-store.Contents.{ContentsModel}
 use Rattle.rollback_stack.specs.journal-log.declared.put.Put.{Put}
+use Rattle.rollback_stack.specs.journal-log.Targets.{with_targets}
+use Rattle.rollback_stack.specs.tree-disk.Tree.{Tree, AgreesOutside}
 use Rattle.job_targets.specs.declared.entry.Entry.{Entry}
 use Rattle.conflict_plan.specs.Plan.{IsPlanRefusal, IsPlanStop, RefusesShared, TellsShared}
 use Rattle.dep_closure.specs.Closed.{IsClosed, IsUnmetOrMemory}
@@ -20,12 +23,12 @@ use Rattle.update_job.specs.Changes.{AreChanges}
 use Rattle.job_targets.specs.declared.targets.Targets.{Targets}
 use Rattle.job_targets.specs.Gathering.{Gathers}
 use Rattle.job_targets.specs.Outcome.{IsTargetRefusal, IsTargetStop}
-use Rattle.system_core.specs.Last.{IsRefusedLast, PassesLast, too_large, too_many}
-use Rattle.system_core.specs.JobWriting.{AnswersJob, CollidesWriting, IsJobStop}
+use Rattle.system_core.specs.Last.{db_after, IsRefusedLast, PassesLast, too_large, too_many}
+use Rattle.system_core.specs.JobWriting.{AnswersJob, CollidesWriting, HasTargets, IsJobStop, MovesTrees}
 use Rattle.local_db.specs.declared.db.Db.{Db}
 use Rattle.local_db.specs.Installed.{IsInstalled}
 use Rattle.system_core.specs.declared.done.Done.{Done}
-use Rattle.system_core.specs.Answers.{AnswersCall, AnswersRefusal, HasList, IsTestAnswer, IsJobTestStop, PassesListTests, collided, last, no_list, untested}
+use Rattle.system_core.specs.Answers.{AnswersCall, AnswersRefusal, DoneMoves, HasList, IsTestAnswer, IsJobTestStop, PassesListTests, collided, last, no_list, untested}
 use Rattle.system_core.specs.Job.{IsTestRefusal, IsTested, Sources}
 use Rattle.system_core.specs.Lists.{ListStep, to_list}
 use Rattle.rollback_stack.specs.change-set.Contents.{IfRefused}
@@ -117,8 +120,9 @@ module _ {D C : Type 0} {disk : DiskModel D} {contents : ContentsModel C} (from 
     write_answer now rose (FarDamaged path) stops tested = absurd stops
 
     pub done_answer : (new : D) (now : Db) (changes : List Change) (number : Option ℕ) → IsInstalled list → AreChanges db.installed list changes → AnswersJob db list made.puts now (Ok number)
+        → (IsTrue disk.tells → HasTargets disk made.puts mid new) → (new ≡ mid) ⊎ PassesLast db list made.puts → (IsTrue disk.tells → MovesTrees disk made.puts db (db_after db list) old new)
         → AnswersCall disk from (to_list list) db old new now (Ok (record { changes = changes; number = number }))
-    done_answer new now changes number rules are answers = record {
+    done_answer new now changes number rules are answers stand tested goes = record {
       list = list;
       leads = refl;
       closed = passes.closed;
@@ -127,7 +131,16 @@ module _ {D C : Type 0} {disk : DiskModel D} {contents : ContentsModel C} (from 
       answers = answers;
       changes = are;
       tested = λ tells. (made, refl, run.ends tells);
+      moments = λ tells. by number answers (run.same tells) (goes tells);
+      outer = λ tells. subst (λ (t : Tree). AgreesOutside is_reserved (disk.reads new) (with_targets made.puts t)) (run.same tells).same.reads (stand tells);
     }
+      where
+        by : (number : Option ℕ) → AnswersJob db list made.puts now (Ok number) → HasRead disk old mid (Unit {0}) → MovesTrees disk made.puts db (db_after db list) old new → DoneMoves disk made.puts db list old new number
+        by None answers read goes = ⊎_elim
+            (λ (same : new ≡ mid). subst (λ (d : D). HasRead disk old d (Unit {0})) (sym same) read)
+            (λ (passed : PassesLast db list made.puts). absurd (passed.something answers.1))
+            tested
+        by (Some number) answers read goes = goes
 
 -- ---- from there to the call that leads to the list
 
@@ -159,6 +172,8 @@ module _ {D : Type 0} (disk : DiskModel D) (from : Sources) (step : ListStep) (d
       answers = is.answers;
       changes = is.changes;
       tested = is.tested;
+      outer = is.outer;
+      moments = is.moments;
     }
     answer_by (Err (Refused why)) is = refusal_by why is
     answer_by (Err Memory) is = tt

@@ -22,7 +22,7 @@ use Rattle.rollback_stack.specs.journal-log.declared.put.Put.{Put}
 use Rattle.rollback_stack.specs.journal-log.Own.{gate}
 use Rattle.rollback_stack.specs.journal-log.Targets.{is_target, node_of, with_targets}
 use Rattle.rollback_stack.specs.journal-log.WriteSet.{Rises}
-use Rattle.tree_journal.specs.Recovery.{is_committed, is_flag, at_rest}
+use Rattle.tree_journal.specs.Recovery.{is_committed, is_flag, at_rest, RecoversTo}
 use Rattle.job_targets.specs.Old.{is_staged}
 use Rattle.local_db.specs.declared.format.Format.{Format}
 use Rattle.local_db.specs.declared.format.Format.TheVariants.{Two}
@@ -127,6 +127,20 @@ module _ {D : Type 0} {disk : DiskModel D} where
     image_clear image differs = ap is_flag (differs.agrees (gate private_directory) (λ h. ⊎_elim
         (λ un. absurd (cc (un, synced (gate private_directory))))
         (λ is. isnt _ (gate_not_written n dropped) is) h)) ∙ clear
+
+    -- each image is at rest, and as it was outside the private directory and at the database
+    pub image_outer : (image : Tree) → DiffersOnlyAt (IsUnsyncedOr disk old (Among (is_saving_name n dropped))) (disk.reads old) image → (q : Name) → is_reserved q ≡ false → get image q ≡ get (disk.reads old) q
+    image_outer image differs q out = differs.agrees q (λ h. ⊎_elim
+        (λ un. absurd (cc (un, synced q)))
+        (λ is. outer_not_written n dropped q out is) h)
+
+    pub image_database : (image : Tree) → DiffersOnlyAt (IsUnsyncedOr disk old (Among (is_saving_name n dropped))) (disk.reads old) image → get image database ≡ get (disk.reads old) database
+    image_database image differs = differs.agrees database (λ h. ⊎_elim
+        (λ un. absurd (cc (un, synced database)))
+        (λ is. isnt _ (database_not_written n dropped) is) h)
+
+    pub image_rests : (image : Tree) → DiffersOnlyAt (IsUnsyncedOr disk old (Among (is_saving_name n dropped))) (disk.reads old) image → RecoversTo private_directory image image
+    image_rests image differs = at_rest (image_clear image differs) (λ q out. refl)
 
     within_private : (q : Name) → Among (is_saving_name n dropped) q → Among (is_private_or_target puts) q
     within_private q is = or_left (is_reserved q) (is_target puts q) (written_reserved n dropped q is)
@@ -254,6 +268,11 @@ module _ {D : Type 0} {disk : DiskModel D} (laws : IsDisk disk) (puts : List Put
           (pushed_is.ready.no_record (record_file db.newest) (or_left (same_name (record_file db.newest) (record_file db.newest)) _ (same_itself (record_file db.newest))))
           (no_dir_stays db.newest (dropped_below db.oldest) puts old mid can.flag_clear can.synced confined can.no_dir) stand;
     }
+
+    -- outside the private directory it leaves the targets
+    pub outer_written : (q : Name) → is_reserved q ≡ false → get (with_targets all (disk.reads mid)) q ≡ get (with_targets puts (disk.reads old)) q
+    unfolding can_write
+    outer_written = let write = can_write in let able = write.puttable in able.managed
 
     module _ (s : SystemState) (stores : StoresIn Two (disk.reads old) s) (from : IsJobFrom s puts before db) (text : bytes ≡ database_bytes Two db.installed db.oldest db.newest) where
       pub settled : AreSettled disk mid s

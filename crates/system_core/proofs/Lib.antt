@@ -30,6 +30,7 @@ pub mod TestLaws
 pub mod JobLaws
 pub mod AnswerLaws
 pub mod CallLaws
+pub mod TreesMoved
 pub mod Erasing
 pub mod ErasedRefusals
 pub mod Inserted

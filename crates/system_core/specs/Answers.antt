@@ -1,5 +1,5 @@
 -- What a job answers on every disk, also on one that tells nothing.
-use Rattle.std.specs.Prelude.{◌≡◌, IsTrue, List, Result, Ok, Err}
+use Rattle.std.specs.Prelude.{◌≡◌, ℕ, IsTrue, List, Option, Some, None, Result, Ok, Err}
 use Rattle.rollback_stack.specs.cny-base.declared.refusal.Fault.TheVariants as fault
 use Rattle.rollback_stack.specs.cny-base.declared.refusal.Refusal.{Refusal}
 use Rattle.rollback_stack.specs.cny-base.declared.refusal.Refusal.TheVariants as refusal
@@ -8,14 +8,15 @@ use Rattle.rollback_stack.specs.cny-base.declared.stop.Stop.{Stop}
 use Rattle.rollback_stack.specs.cny-base.declared.stop.Stop.TheVariants.{Refused, Memory, Failed, Damaged, FarFailed, FarDamaged}
 use Rattle.rollback_stack.specs.trove-stream.declared.parts.TroveParts.{TroveParts}
 use Rattle.rollback_stack.specs.tree-disk.Tree.{Tree}
-use Rattle.rollback_stack.specs.tree-disk.Disk.{DiskModel, Reads}
+use Rattle.rollback_stack.specs.tree-disk.Disk.{DiskModel, HasRead, Reads}
 use Rattle.rollback_stack.specs.journal-log.declared.put.Put.{Put}
 use Rattle.conflict_plan.specs.Plan.{IsFirstShared, IsUnshared}
 use Rattle.dep_closure.specs.Closed.{IsClosed, IsUnmetOrMemory}
+use Rattle.update_job.specs.declared.comparing.Change.{Change}
 use Rattle.update_job.specs.Changes.{AreChanges}
 use Rattle.job_targets.specs.declared.targets.Targets.{Targets}
-use Rattle.system_core.specs.Last.{IsRefusedLast}
-use Rattle.system_core.specs.JobWriting.{AnswersJob, CollidesWriting}
+use Rattle.system_core.specs.Last.{db_after, IsRefusedLast, PassesLast}
+use Rattle.system_core.specs.JobWriting.{AnswersJob, CollidesWriting, HasTargets, MovesTrees}
 use Rattle.local_db.specs.declared.db.Db.{Db}
 use Rattle.local_db.specs.Installed.{IsInstalled}
 use Rattle.system_core.specs.declared.done.Done.{Done}
@@ -56,9 +57,14 @@ HasWrites from before list tree puts = (made : Targets) × (puts ≡ made.puts) 
 
 -- ---- what a call answers
 
+-- What a crash leaves while a job is done: without a number the root was only read.
+abbrev pub DoneMoves : {D : Type 0} → DiskModel D → List Put → Db → List TroveParts → D → D → Option ℕ → Type 0
+DoneMoves disk puts db list old new None = HasRead disk old new (Unit {0})
+DoneMoves disk puts db list old new (Some number) = MovesTrees disk puts db (db_after db list) old new
+
 -- A list follows that of the database, it is closed and keeps the rules of installed lists, the number and the database afterwards
--- are those of a job with it, and these are the changes. Where the disk tells its tree, the tests passed over it.
-pub record AnswersDone {D : Type 0} (disk : DiskModel D) (from : Sources) (step : ListStep) (db : Db) (old : D) (now : Db) (made : Done) : Type 0 where
+-- are those of a job with it, and these are the changes. Where the disk tells its tree, the tests passed over it, and it has the targets.
+pub record AnswersDone {D : Type 0} (disk : DiskModel D) (from : Sources) (step : ListStep) (db : Db) (old new : D) (now : Db) (made : Done) : Type 0 where
   pub list : List TroveParts
   pub leads : step.leads list
   pub closed : IsClosed list
@@ -67,6 +73,8 @@ pub record AnswersDone {D : Type 0} (disk : DiskModel D) (from : Sources) (step 
   pub answers : AnswersJob db list puts now (Ok made.number)
   pub changes : AreChanges db.installed list made.changes
   pub tested : IsTrue disk.tells → HasWrites from db.installed list (disk.reads old) puts
+  pub outer : IsTrue disk.tells → HasTargets disk puts old new
+  pub moments : IsTrue disk.tells → DoneMoves disk puts db list old new made.number
 
 -- No list follows; or the first test that fails is this one; or all of these passed, and one of the last tests fails. Where the disk
 -- tells its tree it was only read, and these are the tests over it. On a disk that tells nothing an old content may collide while the
@@ -87,10 +95,19 @@ HasList step = (list : List TroveParts) × step.leads list × PassesListTests li
 -- What a call answers, by the database and the list that it is called with. A fault comes only once the list has passed its tests, and
 -- one of the contents behind it only while the root is read.
 abbrev pub AnswersCall : {D : Type 0} → DiskModel D → Sources → ListStep → Db → D → D → Db → Result Done Stop → Type 0
-AnswersCall disk from step db old new now (Ok made) = AnswersDone disk from step db old now made
+AnswersCall disk from step db old new now (Ok made) = AnswersDone disk from step db old new now made
 AnswersCall disk from step db old new now (Err (Refused why)) = AnswersRefusal disk from step db old new why
 AnswersCall disk from step db old new now (Err Memory) = Unit {0}
 AnswersCall disk from step db old new now (Err Failed) = HasList step
 AnswersCall disk from step db old new now (Err (Damaged path)) = ⊥
 AnswersCall disk from step db old new now (Err FarFailed) = HasList step × Reads disk old new (Unit {0})
 AnswersCall disk from step db old new now (Err (FarDamaged path)) = HasList step × Reads disk old new (Unit {0})
+
+-- ---- what a crash leaves meanwhile
+
+-- However a call ends: so far the root was only read; or a list follows, all tests passed, and at every moment a crash leaves a tree
+-- that recovers to the tree and the database before the job, or to those after it.
+pub data StepMoves {D : Type 0} (disk : DiskModel D) (from : Sources) (step : ListStep) (db : Db) (old new : D) : Type 0 where
+  only_read : HasRead disk old new (Unit {0}) → StepMoves disk from step db old new
+  moves : (list : List TroveParts) → step.leads list → (puts : List Put) → HasWrites from db.installed list (disk.reads old) puts → PassesLast db list puts
+      → (changes : List Change) → AreChanges db.installed list changes → MovesTrees disk puts db (db_after db list) old new → StepMoves disk from step db old new

@@ -2,7 +2,7 @@
 use Rattle.std.specs.Prelude.{◌≡◌, ◌≢◌, ◌⊎◌, ℕ, ◌+◌, Bool, false, IsTrue, List, map, Option, Some, None, Result, Ok, Err, All}
 use Rattle.std.specs.FinMap.{get}
 use Rattle.rollback_stack.specs.cny-base.Path.{parent}
-use Rattle.rollback_stack.specs.cny-base.Reserved.{private_directory}
+use Rattle.rollback_stack.specs.cny-base.Reserved.{private_directory, is_reserved}
 use Rattle.rollback_stack.specs.cny-base.declared.refusal.Refusal.{Refusal}
 use Rattle.rollback_stack.specs.cny-base.declared.stop.Stop.{Stop}
 use Rattle.rollback_stack.specs.cny-base.declared.stop.Stop.TheVariants.{Refused, Memory, Failed, Damaged, FarFailed, FarDamaged}
@@ -13,11 +13,11 @@ use Rattle.job_targets.specs.declared.entry.Entry.{Entry}
 use Rattle.job_targets.specs.Agree.{AllAgree}
 use Rattle.job_targets.specs.Old.{is_staged}
 use Rattle.rollback_stack.specs.trove-stream.declared.parts.TroveParts.{TroveParts}
-use Rattle.rollback_stack.specs.tree-disk.Tree.{Name, Tree, is_dir, WellFormed}
+use Rattle.rollback_stack.specs.tree-disk.Tree.{Name, Tree, is_dir, AgreesOutside, WellFormed}
 use Rattle.rollback_stack.specs.tree-disk.Rows.{is_dir_at}
 use Rattle.rollback_stack.specs.tree-disk.Disk.{DiskModel}
-use Rattle.rollback_stack.specs.tree-disk.Confined.{IsSynced}
-use Rattle.tree_journal.specs.Recovery.{is_committed}
+use Rattle.rollback_stack.specs.tree-disk.Confined.{IsSynced, LeavesOnly}
+use Rattle.tree_journal.specs.Recovery.{is_committed, RecoversTo}
 use Rattle.rollback_stack.specs.tree-scan.declared.mark.Mark.TheVariants as mark
 use Rattle.rollback_stack.specs.tree-scan.Marks.{fingerprint}
 use Rattle.local_db.specs.declared.format.Format.TheVariants.{Two}
@@ -137,3 +137,24 @@ IsJobStop told rose db list puts (Refused why) = IsRefusedLast db list puts why 
 IsJobStop told rose db list puts (Damaged path) = ⊥
 IsJobStop told rose db list puts FarFailed = ⊥
 IsJobStop told rose db list puts (FarDamaged path) = ⊥
+
+-- ---- of trees, also on a root that stores no system
+
+-- outside the private directory the tree is the one before with all targets
+abbrev pub HasTargets : {D : Type 0} → DiskModel D → List Put → D → D → Type 0
+HasTargets disk puts old new = AgreesOutside is_reserved (disk.reads new) (with_targets puts (disk.reads old))
+
+-- An image recovers to a tree that is equal to this one outside the private directory, and holds this database.
+pub record RecoversToHeld (tree : Tree) (db : Db) (image : Tree) : Type 0 where
+  pub recovered : Tree
+  pub recovers : RecoversTo private_directory image recovered
+  pub outer : AgreesOutside is_reserved recovered tree
+  pub holds : HoldsDatabase Two recovered db.installed db.oldest db.newest
+
+-- At every moment a crash leaves a tree that recovers to the tree and the database before a job, or to those after it.
+abbrev pub MovesTrees : {D : Type 0} → DiskModel D → List Put → Db → Db → D → D → Type 0
+MovesTrees disk puts before after old new = LeavesOnly disk old new (λ image. RecoversToHeld (disk.reads old) before image ⊎ RecoversToHeld (with_targets puts (disk.reads old)) after image)
+
+-- the same from whatever database the root holds
+abbrev pub MovesHeld : {D : Type 0} → DiskModel D → List Put → Db → D → D → Type 0
+MovesHeld disk puts after old new = (before : Db) → HoldsDatabase Two (disk.reads old) before.installed before.oldest before.newest → MovesTrees disk puts before after old new

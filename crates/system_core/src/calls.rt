@@ -9,7 +9,7 @@ ghost use Rattle.rollback_stack.specs.content-store.Contents.{KeepsContents};
 ghost use Rattle.local_db.specs.declared.format.Format.TheVariants.{Two};
 ghost use Rattle.local_db.specs.SystemState.{SystemState};
 ghost use Rattle.local_db.specs.Stores.{IsDatabase, StoresIn};
-ghost use Rattle.system_core.specs.Answers.{AnswersCall};
+ghost use Rattle.system_core.specs.Answers.{AnswersCall, StepMoves};
 ghost use Rattle.system_core.specs.FixedDirs.{fixed_dirs};
 ghost use Rattle.system_core.specs.Job.{no_answers, sources_of};
 ghost use Rattle.system_core.specs.Lists.{AllPathsAllowed, to_erased, to_list, to_updated};
@@ -61,6 +61,8 @@ pub fn update<T: TreeDisk, C: Contents>(
     // After Ok a further job may begin, with this database, also where the root stores no system.
     ensures again { IsTrue T.disk.tells → OnOk result (MayBeginJob T.disk db.new root.new) }
     ensures fixed { IsTrue T.disk.tells → OnOk result (fixed_dirs (T.disk.reads root.new) ≡ fixed_dirs (T.disk.reads root.old)) }
+    // However it ends, a crash leaves the tree and the database before the job, or those after it.
+    ensures moments { IsTrue T.disk.tells → StepMoves T.disk (sources_of carried.now (C.contents.answers far.old) options.now) (to_updated db.old.installed come.now) db.old root.old root.new }
     // On every disk, also where it tells nothing.
     ensures answers { AnswersCall T.disk (sources_of carried.now (C.contents.answers far.old) options.now) (to_updated db.old.installed come.now) db.old root.old root.new db.new result }
     ensures rules { IsDatabase Two db.new.installed db.new.oldest db.new.newest }
@@ -96,6 +98,8 @@ pub fn erase<T: TreeDisk>(
     // After Ok a further job may begin, with this database, also where the root stores no system.
     ensures again { IsTrue T.disk.tells → OnOk result (MayBeginJob T.disk db.new root.new) }
     ensures fixed { IsTrue T.disk.tells → OnOk result (fixed_dirs (T.disk.reads root.new) ≡ fixed_dirs (T.disk.reads root.old)) }
+    // However it ends, a crash leaves the tree and the database before the job, or those after it.
+    ensures moments { IsTrue T.disk.tells → StepMoves T.disk (sources_of [] no_answers options.now) (to_erased db.old.installed names.now) db.old root.old root.new }
     // On every disk, also where it tells nothing.
     ensures answers { AnswersCall T.disk (sources_of [] no_answers options.now) (to_erased db.old.installed names.now) db.old root.old root.new db.new result }
     ensures rules { IsDatabase Two db.new.installed db.new.oldest db.new.newest }
@@ -131,6 +135,8 @@ pub fn adopt<T: TreeDisk, C: Contents>(
     // After Ok a further job may begin, with this database, also where the root stores no system.
     ensures again { IsTrue T.disk.tells → OnOk result (MayBeginJob T.disk db.new root.new) }
     ensures fixed { IsTrue T.disk.tells → OnOk result (fixed_dirs (T.disk.reads root.new) ≡ fixed_dirs (T.disk.reads root.old)) }
+    // However it ends, a crash leaves the tree and the database before the job, or those after it.
+    ensures moments { IsTrue T.disk.tells → StepMoves T.disk (sources_of [] (C.contents.answers far.old) options.now) (to_list list) db.old root.old root.new }
     // On every disk, also where it tells nothing.
     ensures answers { AnswersCall T.disk (sources_of [] (C.contents.answers far.old) options.now) (to_list list) db.old root.old root.new db.new result }
     ensures rules { IsDatabase Two db.new.installed db.new.oldest db.new.newest }

@@ -18,8 +18,9 @@ ghost use Rattle.rollback_stack.specs.change-set.Contents.{IfRefused};
 ghost use Rattle.system_core.specs.FixedDirs.{fixed_dirs};
 ghost use Rattle.system_core.specs.RootReady.{MayBeginJob};
 ghost use Rattle.system_core.specs.RootWriting.{TakesRoot};
+ghost use Rattle.system_core.specs.Last as spec;
 ghost use Rattle.system_core.specs.Last.{ChangesNeither, IsRefusedLast, PassesLast};
-ghost use Rattle.system_core.specs.JobWriting.{AnswersJob, AreRecordedTargets, CanPutJob, CanWriteJob, IsJobFrom, IsJobMade, IsJobStop, JobEnds};
+ghost use Rattle.system_core.specs.JobWriting.{AnswersJob, AreRecordedTargets, CanPutJob, CanWriteJob, HasTargets, IsJobFrom, IsJobMade, IsJobStop, JobEnds, MovesHeld, MovesTrees};
 
 use crate::last::{database_of, db_after};
 use crate::names::changed_names;
@@ -111,6 +112,8 @@ fn put_job<T: TreeDisk>(
     // Also on a root that stores no system.
     ensures again { IsTrue T.disk.tells → OnOk result (MayBeginJob T.disk db.now root.new) }
     ensures fixed { IsTrue T.disk.tells → OnOk result (fixed_dirs (T.disk.reads root.new) ≡ fixed_dirs (T.disk.reads root.old)) }
+    ensures outer { IsTrue T.disk.tells → OnOk result (HasTargets T.disk targets root.old root.new) }
+    ensures moments { IsTrue T.disk.tells → MovesHeld T.disk targets db.now root.old root.new }
     ensures stops { IfErr result (IsPushStop T.disk.tells (Rose (T.disk.faults root.old) (T.disk.faults root.new))) }
     ensures later { T.disk.faults root.old ≤ T.disk.faults root.new }
 {
@@ -152,6 +155,10 @@ pub fn write_job<T: TreeDisk>(
     // After Ok a further job may begin, with this database, also where the root stores no system.
     ensures again { IsTrue T.disk.tells → OnOk result (MayBeginJob T.disk db.new root.new) }
     ensures fixed { IsTrue T.disk.tells → OnOk result (fixed_dirs (T.disk.reads root.new) ≡ fixed_dirs (T.disk.reads root.old)) }
+    // After Ok the targets stand, and however it ends a crash leaves the tree and the database before the job or those after it, also
+    // where the root stores no system.
+    ensures outer { IsTrue T.disk.tells → OnOk result (HasTargets T.disk puts root.old root.new) }
+    ensures moments { IsTrue T.disk.tells → MovesTrees T.disk puts db.old (spec.db_after db.old list) root.old root.new }
     // On every disk.
     ensures answers { AnswersJob db.old list puts db.new result }
     ensures rules { IsDatabase Two db.new.installed db.new.oldest db.new.newest }

@@ -31,6 +31,7 @@ pub use calls::{adopt, erase, update};
 pub use done::Done;
 pub use fixed_dirs::check_fixed_dirs;
 pub use job_writing::write_job;
+pub use listed::troves_keep_rules;
 pub use making_ready::ready;
 pub use names::changed_names;
 pub use newest_job::rollback;

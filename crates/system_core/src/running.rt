@@ -9,7 +9,7 @@ ghost use Rattle.rollback_stack.specs.content-store.Contents.{KeepsContents};
 ghost use Rattle.local_db.specs.declared.format.Format.TheVariants.{Two};
 ghost use Rattle.local_db.specs.SystemState.{SystemState};
 ghost use Rattle.local_db.specs.Stores.{IsDatabase, StoresIn};
-ghost use Rattle.system_core.specs.Answers.{AnswersCall};
+ghost use Rattle.system_core.specs.Answers.{AnswersCall, StepMoves};
 ghost use Rattle.system_core.specs.FixedDirs.{fixed_dirs};
 ghost use Rattle.system_core.specs.Job.{sources_of};
 ghost use Rattle.system_core.specs.Lists.{AllPathsAllowed, to_list};
@@ -49,6 +49,8 @@ pub(crate) fn job<T: TreeDisk, C: Contents>(
     // After Ok a further job may begin, with this database, also where the root stores no system.
     ensures again { IsTrue T.disk.tells → OnOk result (MayBeginJob T.disk db.new root.new) }
     ensures fixed { IsTrue T.disk.tells → OnOk result (fixed_dirs (T.disk.reads root.new) ≡ fixed_dirs (T.disk.reads root.old)) }
+    // However it ends, a crash leaves the tree and the database before the job, or those after it.
+    ensures moments { IsTrue T.disk.tells → StepMoves T.disk (sources_of carried.now (C.contents.answers far.old) options.now) (to_list list) db.old root.old root.new }
     // On every disk, also where it tells nothing.
     ensures answers { AnswersCall T.disk (sources_of carried.now (C.contents.answers far.old) options.now) (to_list list) db.old root.old root.new db.new result }
     ensures rules { IsDatabase Two db.new.installed db.new.oldest db.new.newest }

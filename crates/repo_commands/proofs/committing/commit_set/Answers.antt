@@ -1,13 +1,13 @@
-use Rattle.std.proofs.Common.{ap, ◌∙◌, refl, sym}
+use Rattle.std.proofs.Common.{ap, ◌∙◌, refl, sym, Err}
 use Rattle.cli_call.specs.cny-laws.declared.failure.Failure.TheVariants as failure
-use Rattle.cli_call.specs.Alone.{ActsOnRepository, AnswersByOpened}
-use Rattle.cli_call.proofs.OpenedEnds.{memory_opened}
+use Rattle.cli_call.specs.Alone.{ActsOnRepository, AnswersByContents, AnswersByOpened}
+use Rattle.cli_call.proofs.OpenedEnds.{opened_contents}
 use Rattle.cli_call.proofs.Again.{ready_joined}
 use Rattle.cli_call.specs.Command.{disks}
 use Rattle.cny_report.specs.Troves.{committed_text}
 use Rattle.repo_commands.specs.Commit.{commit_of}
 use Rattle.repo_commands.proofs.CommitEnds.{CommitLaws, Committing, commit_failed, commit_joined, commit_made, commit_rules, commit_told, commit_untold}
-use Rattle.repo_commands.proofs.CommitOpened.{contents_stay, failed_opened, told_opened}
+use Rattle.repo_commands.proofs.CommitOpened.{contents_stay, failed_opened, failed_whole, named_stays, told_memory, told_opened, told_whole}
 use Rattle.cny_version.proofs.cny-base.Passing.{err_is}
 use Rattle.repo_commands.proofs.committing.commit_set.Goals as goal
 
@@ -51,20 +51,20 @@ returns-in_err-ids-clause-opened g c told none input =
     let old = disks c.args.root.now c.args.repo.now c.args.opened.now in
     let new = disks c.args.root.now c.commit.new.disk (record { db = c.args.opened.now.db; catalogue = c.commit.new.catalogue }) in
     err_is (AnswersByOpened g.T.TreeDisk.disk g.P.TreeDisk.disk (commit_of c.args.set.now) input old new) c.from_residual.result c.in_err-ids.field-0.0 c.from_residual.ensures.1
-    (failed_opened c.args.set.now none input old new c.requires.ready refl c.commit.new.catalogue c.commit.result (c.commit.ensures.ends told) c.in_err-ids.field-0.0 (sym c.on_repository.ensures ∙ c.in_err-ids.was))
+    (failed_opened g.met.T.TreeDisk.laws c.args.set.now input old new c.requires.ready refl c.commit.new.catalogue none c.commit.result (c.commit.ensures.ends told) c.in_err-ids.field-0.0 (sym c.on_repository.ensures ∙ c.in_err-ids.was))
 
 pub returns-in_err-committed_text-clause-opened : goal.returns-in_err-committed_text-clause-opened
 returns-in_err-committed_text-clause-opened g c told none input =
     let old = disks c.args.root.now c.args.repo.now c.args.opened.now in
     let new = disks c.args.root.now c.commit.new.disk (record { db = c.args.opened.now.db; catalogue = c.commit.new.catalogue }) in
     err_is (AnswersByOpened g.T.TreeDisk.disk g.P.TreeDisk.disk (commit_of c.args.set.now) input old new) c.from_residual-in_err-committed_text.result failure.Memory c.from_residual-in_err-committed_text.ensures.1
-    (memory_opened (commit_of c.args.set.now) input old new)
+    (told_memory g.met.T.TreeDisk.laws c.args.set.now input old new c.requires.ready refl c.commit.new.catalogue)
 
 pub returns-clause-opened : goal.returns-clause-opened
 returns-clause-opened g c told none input =
     let old = disks c.args.root.now c.args.repo.now c.args.opened.now in
     let new = disks c.args.root.now c.commit.new.disk (record { db = c.args.opened.now.db; catalogue = c.commit.new.catalogue }) in
-    told_opened c.args.set.now none input old new c.requires.ready refl c.commit.new.catalogue c.commit.result (c.commit.ensures.ends told) c.in_ok-ids.ids (sym c.on_repository.ensures ∙ c.in_ok-ids.was)
+    told_opened g.met.T.TreeDisk.laws c.args.set.now input old new c.requires.ready refl c.commit.new.catalogue none c.commit.result (c.commit.ensures.ends told) c.in_ok-ids.ids (sym c.on_repository.ensures ∙ c.in_ok-ids.was)
     c.in_ok-committed_text.field-0 (c.in_ok-committed_text.ensures.value ∙ ap committed_text c.get.ensures)
 
 pub returns-in_err-ids-clause-stay : goal.returns-in_err-ids-clause-stay
@@ -75,3 +75,35 @@ returns-in_err-committed_text-clause-stay g c none = contents_stay g.P.TreeDisk.
 
 pub returns-clause-stay : goal.returns-clause-stay
 returns-clause-stay g c none = contents_stay g.P.TreeDisk.disk c.args.set.now none c.requires.contents c.args.opened.now.catalogue c.args.repo.now c.commit.new.disk c.kept_files.ensures.contents c.commit.ensures.only
+
+-- ---- by the catalogue and the contents that stand whole
+
+pub returns-in_err-ids-clause-whole : goal.returns-in_err-ids-clause-whole
+returns-in_err-ids-clause-whole g c input =
+    let old = disks c.args.root.now c.args.repo.now c.args.opened.now in
+    let new = disks c.args.root.now c.commit.new.disk (record { db = c.args.opened.now.db; catalogue = c.commit.new.catalogue }) in
+    err_is (AnswersByContents g.T.TreeDisk.disk g.P.TreeDisk.disk (commit_of c.args.set.now) input old new) c.from_residual.result c.in_err-ids.field-0.0 c.from_residual.ensures.1
+    (failed_whole g.met.T.TreeDisk.laws c.args.set.now input old new c.requires.ready refl c.commit.new.catalogue c.commit.result c.commit.ensures.ends c.commit.ensures.first c.in_err-ids.field-0.0 (sym c.on_repository.ensures ∙ c.in_err-ids.was))
+
+pub returns-in_err-committed_text-clause-whole : goal.returns-in_err-committed_text-clause-whole
+returns-in_err-committed_text-clause-whole g c input =
+    let old = disks c.args.root.now c.args.repo.now c.args.opened.now in
+    let new = disks c.args.root.now c.commit.new.disk (record { db = c.args.opened.now.db; catalogue = c.commit.new.catalogue }) in
+    err_is (AnswersByContents g.T.TreeDisk.disk g.P.TreeDisk.disk (commit_of c.args.set.now) input old new) c.from_residual-in_err-committed_text.result failure.Memory c.from_residual-in_err-committed_text.ensures.1
+    (opened_contents (commit_of c.args.set.now) input old new (Err failure.Memory) (told_memory g.met.T.TreeDisk.laws c.args.set.now input old new c.requires.ready refl c.commit.new.catalogue))
+
+pub returns-clause-whole : goal.returns-clause-whole
+returns-clause-whole g c input =
+    let old = disks c.args.root.now c.args.repo.now c.args.opened.now in
+    let new = disks c.args.root.now c.commit.new.disk (record { db = c.args.opened.now.db; catalogue = c.commit.new.catalogue }) in
+    told_whole g.met.T.TreeDisk.laws c.args.set.now input old new c.requires.ready refl c.commit.new.catalogue c.commit.result c.commit.ensures.ends c.commit.ensures.sound c.in_ok-ids.ids (sym c.on_repository.ensures ∙ c.in_ok-ids.was)
+    c.in_ok-committed_text.field-0 (c.in_ok-committed_text.ensures.value ∙ ap committed_text c.get.ensures)
+
+pub returns-in_err-ids-clause-named : goal.returns-in_err-ids-clause-named
+returns-in_err-ids-clause-named g c = named_stays g.P.TreeDisk.disk c.args.set.now c.requires.contents c.args.opened.now.catalogue c.args.repo.now c.commit.new.disk c.kept_files.ensures.contents c.commit.ensures.only
+
+pub returns-in_err-committed_text-clause-named : goal.returns-in_err-committed_text-clause-named
+returns-in_err-committed_text-clause-named g c = named_stays g.P.TreeDisk.disk c.args.set.now c.requires.contents c.args.opened.now.catalogue c.args.repo.now c.commit.new.disk c.kept_files.ensures.contents c.commit.ensures.only
+
+pub returns-clause-named : goal.returns-clause-named
+returns-clause-named g c = named_stays g.P.TreeDisk.disk c.args.set.now c.requires.contents c.args.opened.now.catalogue c.args.repo.now c.commit.new.disk c.kept_files.ensures.contents c.commit.ensures.only

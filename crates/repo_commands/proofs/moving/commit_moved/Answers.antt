@@ -111,7 +111,7 @@ returns-in_err-set-clause-opened g c told input =
     let means = move c.args.way c.args.label.now c.args.given.now in
     let old = disks c.args.root.now c.args.repo.now c.args.opened.now in
     let new = disks c.read_config.new.root c.args.repo.now c.args.opened.now in
-    err_is (AnswersByOpened g.T.TreeDisk.disk g.P.TreeDisk.disk means input old new) c.from_residual-in_err-set.result _ c.from_residual-in_err-set.ensures.1 (memory_opened means input old new)
+    err_is (AnswersByOpened g.T.TreeDisk.disk g.P.TreeDisk.disk means input old new) c.from_residual-in_err-set.result _ c.from_residual-in_err-set.ensures.1 (memory_opened g.met.T.TreeDisk.laws means input old new c.requires c.read_config.ensures.same)
 
 pub returns-clause-opened : goal.returns-clause-opened
 returns-clause-opened g c told input =

@@ -1,7 +1,6 @@
-use Rattle.std.proofs.Common.{[], sym, ap, ◌∙◌}
+use Rattle.std.proofs.Common.{[], refl, sym, ap, ◌∙◌}
 use Rattle.cny_report.specs.Jobs.{changes_text}
 use Rattle.cli_call.proofs.Again.{on_done, ready_changed, ready_rests}
-use Rattle.cli_call.proofs.OpenedEnds.{memory_opened}
 use Rattle.cli_call.specs.Alone.{AnswersByOpened, PerformsAlone}
 use Rattle.cli_call.specs.Command.{disks, Performs}
 use Rattle.cli_call.specs.cny-laws.declared.failure.Failure.TheVariants as failure
@@ -9,7 +8,7 @@ use Rattle.cli_call.specs.cny-laws.declared.opened.Opened.{Opened}
 use Rattle.cli_call.specs.system-core.Job.{no_answers, sources_of}
 use Rattle.cli_call.specs.system-core.Lists.{to_erased}
 use Rattle.root_commands.specs.Erase as spec
-use Rattle.root_commands.proofs.JobOpened.{erased_out, failed_opened, told_opened}
+use Rattle.root_commands.proofs.JobOpened.{erased_out, failed_opened, told_opened, untold_opened}
 use Rattle.root_commands.proofs.SpecifiedEnds.{Ran, failed_alone, failed_performs, memory_alone, memory_performs, reads_refused, told_alone, told_performs}
 use Rattle.local_db.proofs.cny-base.Passing.{err_is}
 use Rattle.root_commands.proofs.erasing.erase_troves.Goals as goal
@@ -142,9 +141,9 @@ returns-in_err-done-clause-opened g c = λ input.
     let names = c.args.names.now in
     let options = c.args.options.now in
     err_is (AnswersByOpened g.T.TreeDisk.disk g.P.TreeDisk.disk (spec.erase names options) input (disks c.args.root.now c.args.repo.now opened) (disks c.erase.new.root c.args.repo.now opened')) c.from_residual.result c.in_err-done.field-0.0 c.from_residual.ensures.1
-    (failed_opened g.met.T.TreeDisk.laws c.args.root.now c.erase.new.root c.args.repo.now opened opened' c.requires (sources_of [] no_answers options) (λ l. to_erased l names)
+    (failed_opened g.met.T.TreeDisk.laws c.args.root.now c.erase.new.root c.args.repo.now c.args.repo.now opened opened' c.requires (λ told. refl) (sources_of [] no_answers options) (λ l. to_erased l names)
     (λ list leads. erased_out opened.db.installed names list (record { troves = c.requires.database.installed.troves; allowed = c.requires.database.installed.allowed }) leads.1)
-    input c.erase.result c.in_err-done.field-0.0 (sym c.on_root.ensures ∙ c.in_err-done.was) c.erase.ensures.answers c.erase.ensures.causes)
+    input c.erase.result c.in_err-done.field-0.0 (sym c.on_root.ensures ∙ c.in_err-done.was) c.erase.ensures.answers c.erase.ensures.moments c.erase.ensures.causes)
 
 pub returns-in_err-changes_text-clause-opened : goal.returns-in_err-changes_text-clause-opened
 returns-in_err-changes_text-clause-opened g c = λ input.
@@ -153,7 +152,12 @@ returns-in_err-changes_text-clause-opened g c = λ input.
     let means = spec.erase c.args.names.now c.args.options.now in
     let old = disks c.args.root.now c.args.repo.now opened in
     let new = disks c.erase.new.root c.args.repo.now opened' in
-    err_is (AnswersByOpened g.T.TreeDisk.disk g.P.TreeDisk.disk means input old new) c.from_residual-in_err-changes_text.result failure.Memory c.from_residual-in_err-changes_text.ensures.1 (memory_opened means input old new)
+    let was = sym c.on_root.ensures ∙ c.in_ok-done.was in
+    let names = c.args.names.now in
+    err_is (AnswersByOpened g.T.TreeDisk.disk g.P.TreeDisk.disk means input old new) c.from_residual-in_err-changes_text.result failure.Memory c.from_residual-in_err-changes_text.ensures.1
+    (untold_opened g.met.T.TreeDisk.laws c.args.root.now c.erase.new.root c.args.repo.now c.args.repo.now opened opened' c.requires (λ told. refl) (sources_of [] no_answers c.args.options.now) (λ l. to_erased l names)
+    (λ list leads. erased_out opened.db.installed names list (record { troves = c.requires.database.installed.troves; allowed = c.requires.database.installed.allowed }) leads.1)
+    input c.erase.result c.in_ok-done.done was c.erase.ensures.answers (λ told. (on_done c.erase.result c.in_ok-done.done was (c.erase.ensures.again told)).holds))
 
 pub returns-clause-opened : goal.returns-clause-opened
 returns-clause-opened g c = λ input.
@@ -162,7 +166,7 @@ returns-clause-opened g c = λ input.
     let names = c.args.names.now in
     let options = c.args.options.now in
     let was = sym c.on_root.ensures ∙ c.in_ok-done.was in
-    told_opened g.met.T.TreeDisk.laws c.args.root.now c.erase.new.root c.args.repo.now opened opened' c.requires (sources_of [] no_answers options) (λ l. to_erased l names)
+    told_opened g.met.T.TreeDisk.laws c.args.root.now c.erase.new.root c.args.repo.now c.args.repo.now opened opened' c.requires (λ told. refl) (sources_of [] no_answers options) (λ l. to_erased l names)
     (λ list leads. erased_out opened.db.installed names list (record { troves = c.requires.database.installed.troves; allowed = c.requires.database.installed.allowed }) leads.1)
     input c.erase.result c.in_ok-done.done c.in_ok-changes_text.field-0 was c.erase.ensures.answers (λ told. (on_done c.erase.result c.in_ok-done.done was (c.erase.ensures.again told)).holds)
     (c.in_ok-changes_text.ensures.value ∙ ap changes_text c.get.ensures)

@@ -1,8 +1,7 @@
-use Rattle.std.proofs.Common.{sym, ap, ◌∙◌}
+use Rattle.std.proofs.Common.{refl, sym, ap, ◌∙◌}
 use Rattle.cli_call.specs.cny-base.Count.{Rose}
 use Rattle.cny_report.specs.Jobs.{changes_text}
 use Rattle.cli_call.proofs.Again.{on_done, ready_changed, ready_rests}
-use Rattle.cli_call.proofs.OpenedEnds.{memory_opened}
 use Rattle.cli_call.specs.Alone.{AnswersByOpened, PerformsAlone}
 use Rattle.cli_call.specs.Command.{disks, Performs}
 use Rattle.cli_call.specs.cny-laws.declared.failure.Failure.TheVariants as failure
@@ -11,7 +10,7 @@ use Rattle.cli_call.specs.system-core.Job.{no_answers, sources_of}
 use Rattle.cli_call.specs.system-core.Lists.{to_updated}
 use Rattle.root_commands.specs.Install as spec
 use Rattle.root_commands.proofs.InstallEnds.{named_contents, own_causes}
-use Rattle.root_commands.proofs.JobOpened.{failed_opened, told_opened, updated_out}
+use Rattle.root_commands.proofs.JobOpened.{failed_opened, told_opened, untold_opened, updated_out}
 use Rattle.root_commands.proofs.SpecifiedEnds.{Ran, failed_alone, failed_performs, memory_alone, memory_performs, reads_refused, told_alone, told_performs}
 use Rattle.local_db.proofs.cny-base.Passing.{err_is}
 use Rattle.root_commands.proofs.installing.install_made.Goals as goal
@@ -154,9 +153,9 @@ returns-in_err-done-clause-opened g c = λ troves input.
     let made = c.args.made.now in
     let options = c.args.options.now in
     err_is (AnswersByOpened disk g.P.TreeDisk.disk (spec.install_made options made) input (disks c.args.root.now c.args.repo.now opened) (disks c.update.new.root c.args.repo.now opened')) c.from_residual.result c.in_err-done.field-0.0 c.from_residual.ensures.1
-    (failed_opened g.met.T.TreeDisk.laws c.args.root.now c.update.new.root c.args.repo.now opened opened' c.requires.ready (sources_of made.contents no_answers options) (λ l. to_updated l made.troves)
+    (failed_opened g.met.T.TreeDisk.laws c.args.root.now c.update.new.root c.args.repo.now c.args.repo.now opened opened' c.requires.ready (λ told. refl) (sources_of made.contents no_answers options) (λ l. to_updated l made.troves)
     (λ list leads. updated_out opened.db.installed made.troves list (record { troves = c.requires.ready.database.installed.troves; allowed = c.requires.ready.database.installed.allowed }) (record { troves = troves; allowed = c.requires.allowed }) leads)
-    input c.update.result c.in_err-done.field-0.0 (sym c.on_root.ensures ∙ c.in_err-done.was) (rw (c.get.ensures, c.get-2.ensures) at c.update.ensures.answers)
+    input c.update.result c.in_err-done.field-0.0 (sym c.on_root.ensures ∙ c.in_err-done.was) (rw (c.get.ensures, c.get-2.ensures) at c.update.ensures.answers) (rw (c.get.ensures, c.get-2.ensures) at c.update.ensures.moments)
     (own_causes _ _ (Rose (disk.faults c.args.root.now) (disk.faults c.update.new.root)) c.update.result c.update.ensures.causes))
 
 pub returns-in_err-changes_text-clause-opened : goal.returns-in_err-changes_text-clause-opened
@@ -166,7 +165,12 @@ returns-in_err-changes_text-clause-opened g c = λ troves input.
     let means = spec.install_made c.args.options.now c.args.made.now in
     let old = disks c.args.root.now c.args.repo.now opened in
     let new = disks c.update.new.root c.args.repo.now opened' in
-    err_is (AnswersByOpened g.T.TreeDisk.disk g.P.TreeDisk.disk means input old new) c.from_residual-in_err-changes_text.result failure.Memory c.from_residual-in_err-changes_text.ensures.1 (memory_opened means input old new)
+    let made = c.args.made.now in
+    let was = sym c.on_root.ensures ∙ c.in_ok-done.was in
+    err_is (AnswersByOpened g.T.TreeDisk.disk g.P.TreeDisk.disk means input old new) c.from_residual-in_err-changes_text.result failure.Memory c.from_residual-in_err-changes_text.ensures.1
+    (untold_opened g.met.T.TreeDisk.laws c.args.root.now c.update.new.root c.args.repo.now c.args.repo.now opened opened' c.requires.ready (λ told. refl) (sources_of made.contents no_answers c.args.options.now) (λ l. to_updated l made.troves)
+    (λ list leads. updated_out opened.db.installed made.troves list (record { troves = c.requires.ready.database.installed.troves; allowed = c.requires.ready.database.installed.allowed }) (record { troves = troves; allowed = c.requires.allowed }) leads)
+    input c.update.result c.in_ok-done.done was (rw (c.get.ensures, c.get-2.ensures) at c.update.ensures.answers) (λ told. (on_done c.update.result c.in_ok-done.done was (c.update.ensures.again told)).holds))
 
 pub returns-clause-opened : goal.returns-clause-opened
 returns-clause-opened g c = λ troves input.
@@ -175,7 +179,7 @@ returns-clause-opened g c = λ troves input.
     let made = c.args.made.now in
     let options = c.args.options.now in
     let was = sym c.on_root.ensures ∙ c.in_ok-done.was in
-    told_opened g.met.T.TreeDisk.laws c.args.root.now c.update.new.root c.args.repo.now opened opened' c.requires.ready (sources_of made.contents no_answers options) (λ l. to_updated l made.troves)
+    told_opened g.met.T.TreeDisk.laws c.args.root.now c.update.new.root c.args.repo.now c.args.repo.now opened opened' c.requires.ready (λ told. refl) (sources_of made.contents no_answers options) (λ l. to_updated l made.troves)
     (λ list leads. updated_out opened.db.installed made.troves list (record { troves = c.requires.ready.database.installed.troves; allowed = c.requires.ready.database.installed.allowed }) (record { troves = troves; allowed = c.requires.allowed }) leads)
     input c.update.result c.in_ok-done.done c.in_ok-changes_text.field-0 was (rw (c.get.ensures, c.get-2.ensures) at c.update.ensures.answers) (λ told. (on_done c.update.result c.in_ok-done.done was (c.update.ensures.again told)).holds)
     (c.in_ok-changes_text.ensures.value ∙ ap changes_text c.get-3.ensures)

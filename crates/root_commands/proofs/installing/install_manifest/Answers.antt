@@ -2,6 +2,7 @@ use Rattle.std.proofs.Common.{refl}
 use Rattle.cli_call.specs.Alone.{AnswersByOpened, PerformsAlone}
 use Rattle.cli_call.proofs.AloneLaws.{alone_more}
 use Rattle.cli_call.proofs.OpenedEnds.{fault_opened, opened_more}
+use Rattle.cli_call.proofs.StoreLaws.{nothing_done}
 use Rattle.cli_call.specs.Command.{disks, Performs}
 use Rattle.cli_call.proofs.CommandLaws.{performs_more}
 use Rattle.cli_call.specs.cny-laws.Failures.{failure_of_fault}
@@ -49,7 +50,7 @@ returns-in_err-made-clause-opened g c =
     let means = install c.args.options.now in
     let f = c.in_err-made.field-0.0 in
     err_is (AnswersByOpened g.T.TreeDisk.disk g.P.TreeDisk.disk means c.args.input.now m m) c.from_residual.result (failure_of_fault f) c.from_residual.ensures.1
-    (fault_opened means c.args.input.now m m c.requires (λ told. refl) (λ told. refl) f (λ refused is told s has. unread_refuses c.args.options.now c.args.input.now f c.in_err-made.ensures.refused refused is s))
+    (fault_opened g.met.T.TreeDisk.laws means c.args.input.now m m c.requires (λ told. nothing_done g.met.T.TreeDisk.laws c.args.root.now) (λ told. refl) f (λ refused is told s has. unread_refuses c.args.options.now c.args.input.now f c.in_err-made.ensures.refused refused is s))
 
 pub returns-in_err-check_allowed-clause-opened : goal.returns-in_err-check_allowed-clause-opened
 returns-in_err-check_allowed-clause-opened g c =
@@ -57,7 +58,7 @@ returns-in_err-check_allowed-clause-opened g c =
     let means = install c.args.options.now in
     let f = c.in_err-check_allowed.field-0.0 in
     err_is (AnswersByOpened g.T.TreeDisk.disk g.P.TreeDisk.disk means c.args.input.now m m) c.from_residual-in_err-check_allowed.result (failure_of_fault f) c.from_residual-in_err-check_allowed.ensures.1
-    (fault_opened means c.args.input.now m m c.requires (λ told. refl) (λ told. refl) f
+    (fault_opened g.met.T.TreeDisk.laws means c.args.input.now m m c.requires (λ told. nothing_done g.met.T.TreeDisk.laws c.args.root.now) (λ told. refl) f
     (λ refused is told s has. reserved_refuses c.args.options.now c.args.input.now c.in_ok-made.made c.in_ok-made.ensures.value f (rw c.get.ensures at c.in_err-check_allowed.ensures.reserved) refused is s))
 
 pub returns-clause-opened : goal.returns-clause-opened

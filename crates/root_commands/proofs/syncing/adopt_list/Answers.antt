@@ -1,7 +1,8 @@
 use Rattle.std.proofs.Common.{◌≡◌, [], Ok, Err, sym, ap, ◌∙◌, rules, subst}
 use Rattle.cny_report.specs.Jobs.{changes_text}
 use Rattle.repo_load.specs.RepoContents.{repo_contents}
-use Rattle.cli_call.proofs.Again.{ready_changed, ready_far, ready_rests}
+use Rattle.cli_call.proofs.Again.{on_done, ready_changed, ready_far, ready_rests}
+use Rattle.cli_call.specs.Alone.{AnswersByContents}
 use Rattle.cli_call.specs.Command.{disks, AreReady, Performs}
 use Rattle.cli_call.specs.cny-laws.declared.failure.Failure.TheVariants as failure
 use Rattle.cli_call.specs.cny-laws.declared.opened.Opened.{Opened}
@@ -9,7 +10,9 @@ use Rattle.cli_call.specs.system-core.Job.{sources_of}
 use Rattle.cli_call.specs.system-core.Lists.{to_list}
 use Rattle.root_commands.specs.Syncing as spec
 use Rattle.root_commands.proofs.FarJobs.{RanFar, RepositoryLaws, failed_performs, memory_performs, performed_at, ready_at, told_performs}
+use Rattle.cli_call.proofs.system-core.Managed.{KeepsOut}
 use Rattle.root_commands.proofs.SpecifiedEnds.{reads_refused}
+use Rattle.root_commands.proofs.WholeJobs.{failed_whole, told_whole, untold_whole, whole_at}
 use Rattle.local_db.proofs.cny-base.Passing.{err_is}
 use Rattle.cli_call.proofs.CommandLaws.{read_at}
 use Rattle.root_commands.proofs.syncing.adopt_list.Goals as goal
@@ -146,3 +149,71 @@ returns-clause-repo_read g c =
     let given = c.repo-1.given in
     let after : far'.disk.now ≡ c.repo-1.given.0 = search rules in
     read_at far.disk.now c.args.repo.now far'.disk.now c.repo-1.given.0 c.new-far.ensures.disk after c.adopt.ensures.searches.searched.same
+
+-- ---- by what was read when the disks were opened, and the contents that stand whole
+
+pub returns-in_err-done-clause-whole : goal.returns-in_err-done-clause-whole
+returns-in_err-done-clause-whole g c = λ input.
+    let disk = g.T.TreeDisk.disk in
+    let repo_disk = g.P.TreeDisk.disk in
+    let root = c.args.root.now in
+    let root' = c.adopt.new.root in
+    let far = c.new-far.result in
+    let far' = c.adopt.new.far in
+    let opened = c.args.opened.now in
+    let opened' : Opened = record { db = c.adopt.new.db; catalogue = opened.catalogue } in
+    let options = c.args.options.now in
+    let list = c.args.list in
+    let meaning = spec.adopt_list options list in
+    let ready = ready_at root root' opened opened' far.disk.now c.args.repo.now c.new-far.ensures.disk c.requires.ready in
+    let name = c.adopt.ensures.searches.searched.same_disk ∙ c.new-far.ensures.same_disk in
+    let given = c.repo-1.given in
+    let after : far'.disk.now ≡ c.repo-1.given.0 = search rules in
+    err_is (AnswersByContents disk repo_disk meaning input (disks root c.args.repo.now opened) (disks root' c.repo-1.given.0 opened')) c.from_residual.result c.in_err-done.field-0.0 c.from_residual.ensures.1
+    (whole_at root root' opened opened' meaning input (Err c.in_err-done.field-0.0) far.disk.now c.args.repo.now far'.disk.now c.repo-1.given.0 c.new-far.ensures.disk after
+    (failed_whole g.met.T.TreeDisk.laws root root' far far' opened opened' c.new-far.ensures.catalogue ready c.adopt.ensures.searches.searched options [] (spec.with_list list)
+    (λ l leads. subst KeepsOut (sym leads) (record { troves = rw c.troves.ensures.value at c.troves_keep_rules.ensures; allowed = c.requires.allowed })) input c.adopt.result c.in_err-done.field-0.0 (sym c.on_root.ensures ∙ c.in_err-done.was) c.adopt.ensures.answers c.adopt.ensures.moments))
+
+pub returns-in_err-changes_text-clause-whole : goal.returns-in_err-changes_text-clause-whole
+returns-in_err-changes_text-clause-whole g c = λ input.
+    let disk = g.T.TreeDisk.disk in
+    let repo_disk = g.P.TreeDisk.disk in
+    let root = c.args.root.now in
+    let root' = c.adopt.new.root in
+    let far = c.new-far.result in
+    let far' = c.adopt.new.far in
+    let opened = c.args.opened.now in
+    let opened' : Opened = record { db = c.adopt.new.db; catalogue = opened.catalogue } in
+    let options = c.args.options.now in
+    let list = c.args.list in
+    let meaning = spec.adopt_list options list in
+    let ready = ready_at root root' opened opened' far.disk.now c.args.repo.now c.new-far.ensures.disk c.requires.ready in
+    let name = c.adopt.ensures.searches.searched.same_disk ∙ c.new-far.ensures.same_disk in
+    let given = c.repo-1.given in
+    let after : far'.disk.now ≡ c.repo-1.given.0 = search rules in
+    err_is (AnswersByContents disk repo_disk meaning input (disks root c.args.repo.now opened) (disks root' c.repo-1.given.0 opened')) c.from_residual-in_err-changes_text.result failure.Memory c.from_residual-in_err-changes_text.ensures.1
+    (whole_at root root' opened opened' meaning input (Err failure.Memory) far.disk.now c.args.repo.now far'.disk.now c.repo-1.given.0 c.new-far.ensures.disk after
+    (untold_whole g.met.T.TreeDisk.laws root root' far far' opened opened' c.new-far.ensures.catalogue ready c.adopt.ensures.searches.searched options [] (spec.with_list list)
+    (λ l leads. subst KeepsOut (sym leads) (record { troves = rw c.troves.ensures.value at c.troves_keep_rules.ensures; allowed = c.requires.allowed })) input c.adopt.result c.in_ok-done.done (sym c.on_root.ensures ∙ c.in_ok-done.was) c.adopt.ensures.answers (λ told. (on_done c.adopt.result c.in_ok-done.done (sym c.on_root.ensures ∙ c.in_ok-done.was) (c.adopt.ensures.again told)).holds)))
+
+pub returns-clause-whole : goal.returns-clause-whole
+returns-clause-whole g c = λ input.
+    let disk = g.T.TreeDisk.disk in
+    let repo_disk = g.P.TreeDisk.disk in
+    let root = c.args.root.now in
+    let root' = c.adopt.new.root in
+    let far = c.new-far.result in
+    let far' = c.adopt.new.far in
+    let opened = c.args.opened.now in
+    let opened' : Opened = record { db = c.adopt.new.db; catalogue = opened.catalogue } in
+    let options = c.args.options.now in
+    let list = c.args.list in
+    let meaning = spec.adopt_list options list in
+    let ready = ready_at root root' opened opened' far.disk.now c.args.repo.now c.new-far.ensures.disk c.requires.ready in
+    let name = c.adopt.ensures.searches.searched.same_disk ∙ c.new-far.ensures.same_disk in
+    let given = c.repo-1.given in
+    let after : far'.disk.now ≡ c.repo-1.given.0 = search rules in
+    whole_at root root' opened opened' meaning input (Ok c.in_ok-changes_text.field-0) far.disk.now c.args.repo.now far'.disk.now c.repo-1.given.0 c.new-far.ensures.disk after
+    (told_whole g.met.T.TreeDisk.laws root root' far far' opened opened' c.new-far.ensures.catalogue ready c.adopt.ensures.searches.searched options [] (spec.with_list list)
+    (λ l leads. subst KeepsOut (sym leads) (record { troves = rw c.troves.ensures.value at c.troves_keep_rules.ensures; allowed = c.requires.allowed })) input c.adopt.result c.in_ok-done.done c.in_ok-changes_text.field-0 (sym c.on_root.ensures ∙ c.in_ok-done.was) c.adopt.ensures.answers (λ told. (on_done c.adopt.result c.in_ok-done.done (sym c.on_root.ensures ∙ c.in_ok-done.was) (c.adopt.ensures.again told)).holds)
+    (c.in_ok-changes_text.ensures.value ∙ ap changes_text c.get.ensures))

@@ -3,12 +3,14 @@ use Rattle.rollback_stack.specs.cny-base.Stop.{stop_of_fault}
 use Rattle.rollback_stack.specs.trove-stream.declared.parts.TroveParts.{TroveParts}
 use Rattle.update_job.specs.Lists.{AreInstalled, IsErased, IsUnerased}
 use Rattle.rollback_stack.specs.cny-base.Count.{Rose}
+use Rattle.system_core.specs.Answers.{only_read}
 use Rattle.system_core.specs.Job.{no_answers, sources_of}
 use Rattle.system_core.specs.Lists.{to_erased}
 use Rattle.system_core.proofs.AnswerLaws.{answer_by, answer_stop_by, list_answer}
 use Rattle.system_core.proofs.CallLaws.{ends_by, ends_stop, erased_allowed, list_stop, own_cause, own_cause_of, own_fault_cause}
 use Rattle.system_core.proofs.ErasedRefusals.{erasure_stops}
 use Rattle.system_core.proofs.Held.{same_list}
+use Rattle.system_core.proofs.TreesMoved.{moves_by, nothing_read}
 use Rattle.update_job.proofs.change-set.Carrying.{no_carried}
 use Rattle.system_core.proofs.calls.erase.Goals as goal
 
@@ -74,3 +76,14 @@ returns-in_err-done-clause-answers g c =
 pub returns-clause-answers : goal.returns-clause-answers
 returns-clause-answers g c =
     answer_by g.T.TreeDisk.disk (sources_of [] no_answers c.args.options.now) (to_erased c.args.db.now.installed c.args.names.now) c.args.db.now c.args.root.now c.job.new.root c.job.new.db c.in_ok-list.list (c.in_ok-list.ensures.all, c.in_ok-list.ensures.value) (Ok c.in_ok-done.done) c.in_ok-done.ensures.answers
+
+pub returns-in_err-list-clause-moments : goal.returns-in_err-list-clause-moments
+returns-in_err-list-clause-moments g c tells = only_read (nothing_read g.met.T.TreeDisk.laws c.args.root.now)
+
+pub returns-in_err-done-clause-moments : goal.returns-in_err-done-clause-moments
+returns-in_err-done-clause-moments g c tells =
+    moves_by g.met.T.TreeDisk.laws (sources_of [] no_answers c.args.options.now) (to_erased c.args.db.now.installed c.args.names.now) c.args.db.now c.args.root.now c.in_ok-list.list (c.in_ok-list.ensures.all, c.in_ok-list.ensures.value) c.job.new.root (c.in_err-done.ensures.moments tells)
+
+pub returns-clause-moments : goal.returns-clause-moments
+returns-clause-moments g c tells =
+    moves_by g.met.T.TreeDisk.laws (sources_of [] no_answers c.args.options.now) (to_erased c.args.db.now.installed c.args.names.now) c.args.db.now c.args.root.now c.in_ok-list.list (c.in_ok-list.ensures.all, c.in_ok-list.ensures.value) c.job.new.root (c.in_ok-done.ensures.moments tells)

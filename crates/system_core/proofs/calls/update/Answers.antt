@@ -3,11 +3,13 @@ use Rattle.rollback_stack.specs.cny-base.Stop.{stop_of_fault}
 use Rattle.rollback_stack.specs.trove-stream.declared.parts.TroveParts.{TroveParts}
 use Rattle.update_job.specs.Lists.{IsUnupdated, IsUpdated}
 use Rattle.rollback_stack.specs.cny-base.Count.{Rose}
+use Rattle.system_core.specs.Answers.{only_read}
 use Rattle.system_core.specs.Job.{sources_of}
 use Rattle.system_core.specs.Lists.{to_updated}
 use Rattle.system_core.proofs.AnswerLaws.{answer_by, answer_stop_by, list_answer}
 use Rattle.system_core.proofs.CallLaws.{ends_by, ends_stop, fault_cause, list_stop, updated_allowed}
 use Rattle.system_core.proofs.Held.{same_list}
+use Rattle.system_core.proofs.TreesMoved.{moves_by, nothing_read}
 use Rattle.system_core.proofs.JobLaws.{cause_of}
 use Rattle.job_targets.proofs.content-store.Sources.{keeps_start}
 use Rattle.system_core.proofs.calls.update.Goals as goal
@@ -51,3 +53,14 @@ returns-in_err-done-clause-answers g c =
 pub returns-clause-answers : goal.returns-clause-answers
 returns-clause-answers g c =
     answer_by g.T.TreeDisk.disk (sources_of c.args.carried.now (g.C.Contents.contents.answers c.args.far.now) c.args.options.now) (to_updated c.args.db.now.installed c.args.come.now) c.args.db.now c.args.root.now c.job.new.root c.job.new.db c.in_ok-list.list c.in_ok-list.ensures.value (Ok c.in_ok-done.done) c.in_ok-done.ensures.answers
+
+pub returns-in_err-list-clause-moments : goal.returns-in_err-list-clause-moments
+returns-in_err-list-clause-moments g c tells = only_read (nothing_read g.met.T.TreeDisk.laws c.args.root.now)
+
+pub returns-in_err-done-clause-moments : goal.returns-in_err-done-clause-moments
+returns-in_err-done-clause-moments g c tells =
+    moves_by g.met.T.TreeDisk.laws (sources_of c.args.carried.now (g.C.Contents.contents.answers c.args.far.now) c.args.options.now) (to_updated c.args.db.now.installed c.args.come.now) c.args.db.now c.args.root.now c.in_ok-list.list c.in_ok-list.ensures.value c.job.new.root (c.in_err-done.ensures.moments tells)
+
+pub returns-clause-moments : goal.returns-clause-moments
+returns-clause-moments g c tells =
+    moves_by g.met.T.TreeDisk.laws (sources_of c.args.carried.now (g.C.Contents.contents.answers c.args.far.now) c.args.options.now) (to_updated c.args.db.now.installed c.args.come.now) c.args.db.now c.args.root.now c.in_ok-list.list c.in_ok-list.ensures.value c.job.new.root (c.in_ok-done.ensures.moments tells)

@@ -10,6 +10,7 @@ use Rattle.system_core.specs.JobWriting.{database_write}
 use Rattle.system_core.proofs.JobRunning.{after_stored, can_write, joined, next_job, only_pushed, settled}
 use Rattle.system_core.proofs.Resting.{put_fixed, put_ready}
 use Rattle.system_core.proofs.JobEnding.{last_stops}
+use Rattle.system_core.proofs.TreesMoved.{job_moves, job_targets, saved_moves}
 use Rattle.system_core.proofs.job_writing.put_job.Goals as goal
 
 pub push_puts-requires-clause-dir : goal.push_puts-requires-clause-dir
@@ -62,3 +63,25 @@ pub returns-clause-fixed : goal.returns-clause-fixed
 returns-clause-fixed g c tells =
     put_fixed c.args.targets c.args.before.now c.args.entries.now c.args.db.now c.requires.free c.requires.db c.args.root.now c.push_puts.new.disk c.write_all.new.root (c.requires.told tells) (c.in_ok-pushed.ensures.confined tells)
     c.in_ok-pushed.pushed c.in_ok-all.all c.args.bytes (c.in_ok-pushed.ensures.pushed tells) c.in_ok-all.ensures c.requires.text c.write_all.result (c.write_all.ensures.put tells)
+
+pub returns-clause-outer : goal.returns-clause-outer
+returns-clause-outer g c tells =
+    job_targets g.met.T.TreeDisk.laws c.args.targets c.args.before.now c.args.entries.now c.args.db.now (subst Rises c.get-items.ensures.value c.get-items.ensures.rises) c.requires.free c.requires.given c.requires.db c.requires.entries
+    c.args.root.now c.push_puts.new.disk (c.requires.told tells) (c.in_ok-pushed.ensures.confined tells)
+    c.in_ok-pushed.pushed c.in_ok-all.all c.args.bytes (c.in_ok-pushed.ensures.pushed tells) c.in_ok-all.ensures (subst (All (λ (p : Put). IsTrue (may_stand (node_of p.want)))) c.get.ensures.value c.put_ranges.ensures) c.requires.text c.write_all.new.root c.write_all.result (c.write_all.ensures.put tells)
+
+pub returns-clause-moments : goal.returns-clause-moments
+returns-clause-moments g c tells =
+    job_moves g.met.T.TreeDisk.laws c.args.targets c.args.before.now c.args.entries.now c.args.db.now (subst Rises c.get-items.ensures.value c.get-items.ensures.rises) c.requires.free c.requires.given c.requires.db c.requires.entries
+    c.args.root.now c.push_puts.new.disk (c.requires.told tells) (c.in_ok-pushed.ensures.confined tells)
+    c.in_ok-pushed.pushed c.in_ok-all.all c.args.bytes (c.in_ok-pushed.ensures.pushed tells) c.in_ok-all.ensures (subst (All (λ (p : Put). IsTrue (may_stand (node_of p.want)))) c.get.ensures.value c.put_ranges.ensures) c.requires.text c.write_all.new.root (c.write_all.ensures.writes tells)
+
+pub returns-in_err-pushed-clause-moments : goal.returns-in_err-pushed-clause-moments
+returns-in_err-pushed-clause-moments g c tells =
+    let can = c.requires.told tells in
+    saved_moves c.args.db.now.newest (dropped_below c.args.db.now.oldest) c.args.targets c.args.root.now c.push_puts.new.disk can.flag_clear can.synced (c.in_err-pushed.ensures.confined tells) c.args.db.now
+
+pub returns-in_err-all-clause-moments : goal.returns-in_err-all-clause-moments
+returns-in_err-all-clause-moments g c tells =
+    let can = c.requires.told tells in
+    saved_moves c.args.db.now.newest (dropped_below c.args.db.now.oldest) c.args.targets c.args.root.now c.push_puts.new.disk can.flag_clear can.synced (c.in_ok-pushed.ensures.confined tells) c.args.db.now

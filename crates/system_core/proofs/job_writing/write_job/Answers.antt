@@ -2,6 +2,10 @@ use Rattle.std.proofs.Common.{refl, sym, subst, arith}
 use Rattle.job_targets.specs.Agree.{AllAgree}
 use Rattle.rollback_stack.specs.job-record.Changed.{AreChangedNames}
 use Rattle.rollback_stack.specs.Entries.{AreEntries}
+use Rattle.local_db.specs.declared.db.Db.{Db}
+use Rattle.system_core.specs.JobWriting.{MovesTrees}
+use Rattle.system_core.specs.Last.{db_after}
+use Rattle.system_core.proofs.TreesMoved.{no_targets, nothing_moves}
 use Rattle.system_core.proofs.JobEnding.{can_put, job_from, pushed_stops, refused_job, refused_stops, stopped_answer, stopped_job, written_job}
 use Rattle.system_core.proofs.job_writing.write_job.Goals as goal
 
@@ -76,3 +80,22 @@ returns-clause-answers g c = let made = rw c.in-Some.is at c.in_ok-job.ensures.s
 
 pub returns-clause-rules : goal.returns-clause-rules
 returns-clause-rules g c = let made = rw c.in-Some.is at c.in_ok-job.ensures.some in made.database
+
+pub returns-in_err-job-clause-moments : goal.returns-in_err-job-clause-moments
+returns-in_err-job-clause-moments g c tells = nothing_moves g.met.T.TreeDisk.laws c.args.db.now (db_after c.args.db.now c.args.list) c.args.puts c.args.entries c.args.root.now (c.requires.told tells)
+
+pub returns-in_default-clause-moments : goal.returns-in_default-clause-moments
+returns-in_default-clause-moments g c tells = nothing_moves g.met.T.TreeDisk.laws c.args.db.now (db_after c.args.db.now c.args.list) c.args.puts c.args.entries c.args.root.now (c.requires.told tells)
+
+pub returns-in_default-clause-outer : goal.returns-in_default-clause-outer
+returns-in_default-clause-outer g c tells = no_targets g.T.TreeDisk.disk c.args.puts c.args.root.now (let none = rw c.in_default.is at c.in_ok-job.ensures.none in none.no_target)
+
+pub returns-in_err-put_job-clause-moments : goal.returns-in_err-put_job-clause-moments
+returns-in_err-put_job-clause-moments g c tells =
+    let made = rw c.in-Some.is at c.in_ok-job.ensures.some in
+    subst (λ (db : Db). MovesTrees g.T.TreeDisk.disk c.args.puts c.args.db.now db c.args.root.now c.put_job.new.root) made.db_is (c.in_err-put_job.ensures.moments tells c.args.db.now (c.requires.told tells).holds)
+
+pub returns-clause-moments : goal.returns-clause-moments
+returns-clause-moments g c tells =
+    let made = rw c.in-Some.is at c.in_ok-job.ensures.some in
+    subst (λ (db : Db). MovesTrees g.T.TreeDisk.disk c.args.puts c.args.db.now db c.args.root.now c.put_job.new.root) made.db_is (c.in_ok-put_job.ensures.moments tells c.args.db.now (c.requires.told tells).holds)

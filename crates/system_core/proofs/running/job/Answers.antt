@@ -1,12 +1,15 @@
-use Rattle.std.proofs.Common.{◌∙◌, ap, sym, subst}
+use Rattle.std.proofs.Common.{◌∙◌, ap, refl, sym, subst}
 use Rattle.rollback_stack.specs.cny-base.Count.{Rose}
 use Rattle.rollback_stack.specs.cny-base.declared.stop.Stop.TheVariants.{Memory}
 use Rattle.update_job.specs.Changes.{AreChanges}
+use Rattle.system_core.specs.Answers.{only_read}
 use Rattle.system_core.specs.FixedDirs.{fixed_dirs}
 use Rattle.system_core.specs.Job.{sources_of}
 use Rattle.system_core.specs.Lists.{to_list}
 use Rattle.system_core.proofs.AnswerLaws.{answer_stop, done_answer, tests_answer, write_answer}
 use Rattle.system_core.proofs.JobLaws.{can_write, cause_of, memory_cause, memory_stop, stored, tested_cause, tests_stop, write_done, write_stop, written_cause}
+use Rattle.system_core.specs.Last.{db_after}
+use Rattle.system_core.proofs.TreesMoved.{moves_since, nothing_read, written_moves}
 use Rattle.job_targets.proofs.content-store.Sources.{keeps_start}
 use Rattle.system_core.proofs.running.job.Goals as goal
 
@@ -81,4 +84,27 @@ returns-in_err-number-clause-answers g c =
 pub returns-clause-answers : goal.returns-clause-answers
 returns-clause-answers g c =
     done_answer (sources_of c.args.carried.now (g.C.Contents.contents.answers c.args.far.now) c.args.options.now) c.args.db.now c.args.list c.in_ok-made.made c.in_ok-made.ensures.gathers c.in_ok-made.ensures.passes c.write_job.new.root c.write_job.new.db c.in_ok-changes.changes c.in_ok-number.number
-    c.in_ok-made.ensures.list c.in_ok-changes.ensures c.in_ok-number.ensures.answers
+    c.in_ok-made.ensures.list c.in_ok-changes.ensures c.in_ok-number.ensures.answers c.in_ok-number.ensures.outer c.in_ok-number.ensures.tested
+    (λ tells.
+    let from = sources_of c.args.carried.now (g.C.Contents.contents.answers c.args.far.now) c.args.options.now in
+    let run = c.in_ok-made.ensures.gathers in
+    moves_since g.met.T.TreeDisk.laws from (to_list c.args.list) c.args.db.now c.args.root.now c.tested.new.root c.write_job.new.root (c.requires.ready tells) (run.same tells) c.in_ok-made.made.puts
+    (db_after c.args.db.now c.args.list) (c.in_ok-number.ensures.moments tells))
+
+pub returns-in_err-changes-clause-moments : goal.returns-in_err-changes-clause-moments
+returns-in_err-changes-clause-moments g c tells = only_read (nothing_read g.met.T.TreeDisk.laws c.args.root.now)
+
+pub returns-in_err-made-clause-moments : goal.returns-in_err-made-clause-moments
+returns-in_err-made-clause-moments g c tells = only_read (c.in_err-made.ensures.gathers.same tells)
+
+pub returns-in_err-number-clause-moments : goal.returns-in_err-number-clause-moments
+returns-in_err-number-clause-moments g c tells =
+    let run = c.in_ok-made.ensures.gathers in
+    written_moves g.met.T.TreeDisk.laws (sources_of c.args.carried.now (g.C.Contents.contents.answers c.args.far.now) c.args.options.now) (to_list c.args.list) c.args.db.now c.args.root.now c.tested.new.root c.write_job.new.root
+    (c.requires.ready tells) (run.same tells) c.args.list refl c.in_ok-made.made.puts (c.in_ok-made.made, refl, run.ends tells) c.in_ok-changes.changes c.in_ok-changes.ensures c.in_err-number.ensures.tested (c.in_err-number.ensures.moments tells)
+
+pub returns-clause-moments : goal.returns-clause-moments
+returns-clause-moments g c tells =
+    let run = c.in_ok-made.ensures.gathers in
+    written_moves g.met.T.TreeDisk.laws (sources_of c.args.carried.now (g.C.Contents.contents.answers c.args.far.now) c.args.options.now) (to_list c.args.list) c.args.db.now c.args.root.now c.tested.new.root c.write_job.new.root
+    (c.requires.ready tells) (run.same tells) c.args.list refl c.in_ok-made.made.puts (c.in_ok-made.made, refl, run.ends tells) c.in_ok-changes.changes c.in_ok-changes.ensures c.in_ok-number.ensures.tested (c.in_ok-number.ensures.moments tells)
