@@ -155,18 +155,6 @@ def add_with(text, *contents):
     return "add", text, contents, ()
 
 
-def look_ups():
-    """Each look-up, of what is there and of what isn't."""
-    yield ("troves",)
-    for name in (b"foo:runtime", b"foo:lib", b"foo:source", b"bar", b"absent:lib", b"group-x"):
-        yield "by_name", name
-        for version in (on(label, revision) for label in (LABEL, OTHER) for revision in (b"1.0-1-1", b"1.0-2-1", b"1.1-1-7", b"1.0-2")):
-            if (b":source" in name) == (version.count(b"-") == 1):
-                yield from ((call, named(name, version, flavor)) for flavor in (b"", b"[ssl]") for call in ("find", "place_of"))
-            yield from (("latest", name, version, asked) for asked in (b"any", b"source"))
-    yield from (("has_content", byte) for byte in (0, 1, 97, 98, 99, 255))
-
-
 def id_text_of(text):
     """An id, which is at the first revision on the label where a row doesn't tell its version."""
     name, bracket, flavor = TABLE.bytes(text).partition(b"[")
@@ -180,7 +168,9 @@ def calls_of(row):
     further = fields[-1].split() if fields[1:] else []
     match call:
         case "look_ups":
-            yield from look_ups()
+            yield from calls_in("look-ups")
+        case "has_content":
+            yield call, int(rest)
         case "add":
             yield add(id_text_of(fields[0]), *map(id_text_of, further))
         case "add_with":

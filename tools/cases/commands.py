@@ -5,7 +5,7 @@ from tools.cases import samples
 from tools.cases.commits import failing_commits
 from tools.cases.rows import Rows
 from tools.cases.samples import (
-    BOTH, LONGER_SPEC, LONG_SPEC, SET, SETS, content_at, edited, file, manifest,
+    BOTH, LONGER_SPEC, LONG_SPEC, SETS, content_at, file, manifest,
 )  # fmt: skip
 from tools.model import repository as repo_side
 
@@ -14,10 +14,8 @@ from tools.model import repository as repo_side
 JOURNAL, COMMIT_2 = repo_side.JOURNAL, repo_side.commit_path(2)
 REPO_GATE, REPO_LOG, REPO_STAGE = JOURNAL.gate, JOURNAL.log, JOURNAL.stage
 REPO_LOG_TEXT = JOURNAL.log_of(JOURNAL.numbered([(b"/x", ("dir", 0o750)), (b"/x/y", file(b"new"))]))
-CUT_LOG, CUT_REPO_LOG = samples.ONE_LOG[:-1], REPO_LOG_TEXT[:-1]
 AT_ABC, AT_ABCD, AT_X = map(content_at, (b"abc", b"abcd", b"x"))
-LONG_NAME, LONG_SPEC_WORD, LONGEST_WORD, LARGEST = b"n" * 256, LONG_SPEC.encode(), LONGER_SPEC.encode(), b"#" * 65_536
-X, EMPTY_SET = b"x" * 200, edited(SET, 8, 163)
+LONG_NAME, LONG_SPEC_WORD, LONGEST_WORD = b"n" * 256, LONG_SPEC.encode(), LONGER_SPEC.encode()
 LONG_LABEL = b"h" * 200 + b"@n:t"
 LONG_VERSION = (b"/" + LONG_LABEL + b"/" + b"1" * 40 + b"-1-1/") + LONG_LABEL
 LONG_UPSTREAM = b"1" * (512 - len(LONG_VERSION) - 5)

@@ -5,6 +5,7 @@ import re
 from tools.cases import samples, streams
 from tools.cases.rows import ONE, OTHER, Rows
 from tools.cases.samples import BASE, COMPONENT, GATE, LOG, PICKS, SECOND, STAGE, V2, WORK, carried, file
+from tools.lines.script import Script
 from tools.model import program, stacks
 from tools.model.records import DATABASE, database_bytes, read_database
 from tools.model.streams import set_bytes
@@ -117,6 +118,13 @@ def one_format(nodes):
     """A root of format 2 in format 1."""
     nodes = dict(nodes)
     return sorted(stacks.in_format(nodes, read_database(nodes[DATABASE][2]), 2, 1).items())
+
+
+def two_jobs():
+    """The nodes of a root with two jobs."""
+    script = Script()
+    Examples(script).begin("two_jobs").play("TWO_JOBS")
+    return script.trees["root"].nodes
 
 
 def format_examples(script):

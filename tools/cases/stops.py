@@ -7,7 +7,7 @@ import random
 
 from tools.cases import commands, mirrors, root_commands, root_examples, samples, several, syncs
 from tools.cases.rows import Rows
-from tools.lines.script import JOURNALS, Script, recovered
+from tools.lines.script import JOURNALS, recovered
 from tools.model import repository
 from tools.model.records import BASE, DATABASE
 from tools.model.trees import DIR, is_tree, is_within, joined, parent_of
@@ -18,14 +18,8 @@ PICKS = (*samples.PICKS, 0x5555555555555555, 0xAAAAAAAAAAAAAAAA, 2**64 - 1, *(CH
 READERS = {"root": b"q", "repo": b"rq"}
 
 
-def two_jobs():
-    """A root of format 1 with two jobs."""
-    script = Script()
-    root_examples.Examples(script).begin("two_jobs").play("TWO_JOBS")
-    return root_examples.one_format(script.trees["root"].nodes)
-
-
-OLD_ROOT = two_jobs()
+# A root of format 1 with two jobs.
+OLD_ROOT = root_examples.one_format(root_examples.two_jobs())
 TABLE = Rows("stops", globals(), *(one.TABLE.names for one in (syncs, root_commands, commands, mirrors, several)))
 CHANGES = [
     (sides, row)

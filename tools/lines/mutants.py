@@ -14,7 +14,7 @@ import sys
 import time
 
 from tools.cases import mirrors, samples, several
-from tools.cases.root_examples import OWNED, Examples, one_format
+from tools.cases.root_examples import OWNED, one_format, two_jobs
 from tools.cases.samples import LABEL, RELATIVE, SET, TABLE, file
 from tools.lines.script import Script
 from tools.model import repository
@@ -61,14 +61,8 @@ def mutant(dice, whole):
 # ---- what there is of each kind, and how it is read
 
 
-def set_up():
-    """The nodes of a root with two jobs, and of one of format 1, and of a repository with two commits."""
-    script = Script()
-    Examples(script).begin("mutants").play("TWO_JOBS")
-    return [sorted(nodes.items()) for nodes in (script.trees["root"].nodes, dict(one_format(script.trees["root"].nodes)))] + [samples.BOTH]
-
-
-ROOT, OLD_ROOT, REPO = set_up()
+# The nodes of a root with two jobs, and of one of format 1, and of a repository with two commits.
+ROOT, OLD_ROOT, REPO = sorted(two_jobs().items()), one_format(two_jobs()), samples.BOTH
 PLACES = dict(ROOT), dict(OLD_ROOT), dict(REPO)
 MANIFESTS = TABLE.named("COMPONENT SECOND PACKAGE SOURCE GROUP LEVELS") + [OWNED]
 FOO = b"foo:runtime=" + LABEL
