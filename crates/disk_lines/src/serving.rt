@@ -59,17 +59,19 @@ fn push_stop(stop: &Stop, answer: &mut Answer) {
     }
 }
 
-// How a session ends: the replies, or why there are none.
-fn push_end(served: Served, answer: &mut Answer) {
-    let Served {
-        session,
-        mut out,
-        given: _,
-    } = served;
-    match session.end(&mut out) {
-        Ok(()) => answer.field_hex(out.get()),
-        Err(Fault::Refused(refusal)) => answer.refusal(&refusal),
-        Err(Fault::Memory) => answer.field("memory"),
+impl Served {
+    // How a session ends: the replies, or why there are none.
+    fn push_end(self, answer: &mut Answer) {
+        let Served {
+            session,
+            mut out,
+            given: _,
+        } = self;
+        match session.end(&mut out) {
+            Ok(()) => answer.field_hex(out.get()),
+            Err(Fault::Refused(refusal)) => answer.refusal(&refusal),
+            Err(Fault::Memory) => answer.field("memory"),
+        }
     }
 }
 
@@ -89,7 +91,7 @@ fn push_again(
             Err(again) => push_stop(&again, answer),
         }
     }
-    push_end(served, answer);
+    served.push_end(answer);
 }
 
 /// `serve TREE SIZE STREAM`: the replies of the repository to a stream in pieces of so many bytes. After a stop also how many bytes
@@ -109,7 +111,7 @@ pub fn serve(line: &mut Line, answer: &mut Answer) {
         given: 0,
     };
     match feed_all(&mut disk, &catalogue, stream, size, &mut served, answer) {
-        Ok(()) => push_end(served, answer),
+        Ok(()) => served.push_end(answer),
         Err(stop) => push_again(&mut disk, &catalogue, &stop, served, answer),
     }
 }
