@@ -4,6 +4,6 @@
 # Usage: bench/catalogue.sh [COUNT...]
 set -eu
 . "$(dirname "$0")/lib.sh"
-build_bench catalogues 'cny_base cny_flavor cny_version trove_parts trove_stream repo_index trove_spec repo_shadow anyhow'
+build_bench catalogues 'cny_base cny_dep cny_version trove_parts trove_stream repo_index trove_spec repo_shadow anyhow'
 [ $# -gt 0 ] || set -- 5000 10000 20000 40000
 least 3 alone "$@"

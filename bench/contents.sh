@@ -11,5 +11,5 @@ for count in "$@"; do
     least 3 "$program" "$count" 600
 done
 least 3 "$program" 10 16777216
-build_bench compares 'cny_lanes anyhow'
+build_bench compares 'cny_base anyhow'
 least 3 "$program" 16777216

@@ -4,6 +4,6 @@
 # Usage: bench/loading.sh [COUNT...]
 set -eu
 . "$(dirname "$0")/lib.sh"
-build_bench loads 'cny_base file_stream trove_parts trove_stream tree_memory root_words repo_index repo_load sha1 anyhow'
+build_bench loads 'cny_base cny_stream trove_parts trove_stream tree_memory root_words repo_index repo_load sha1 anyhow'
 [ $# -gt 0 ] || set -- 100 200 400 800
 least 3 alone "$@"

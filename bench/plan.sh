@@ -5,6 +5,6 @@
 # Usage: bench/plan.sh [COUNT...]
 set -eu
 . "$(dirname "$0")/lib.sh"
-build_bench plans 'cny_base file_stream trove_parts trove_stream tree_memory conflict_plan root_words sha1 anyhow'
+build_bench plans 'cny_base cny_stream trove_parts trove_stream tree_memory conflict_plan root_words sha1 anyhow'
 [ $# -gt 0 ] || set -- 250 500 1000 2000
 least 3 alone "$@"

@@ -5,7 +5,7 @@
 # Usage: bench/versions.sh [COUNT...]
 set -eu
 . "$(dirname "$0")/lib.sh"
-build_bench versions 'cny_base file_stream trove_parts trove_stream tree_memory root_words repo_index repo_load sha1 anyhow'
+build_bench versions 'cny_base cny_stream trove_parts trove_stream tree_memory root_words repo_index repo_load sha1 anyhow'
 [ $# -gt 0 ] || set -- 2500 5000 10000
 least 3 alone "$@" | tee "$work/told"
 doubled <"$work/told" | at_most 2.6 '2.6 times'

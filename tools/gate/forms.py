@@ -18,7 +18,7 @@ OF_DISK = re.compile(
 TAKES = re.compile(r"\.take\(\s*&\s*mut\b|\binput\s*\.take\(|(?:Source>?|\b[A-Z])::take\(")
 # What is a disk itself, and what only tests.
 DISKS = {"tree_disk", "tree_nodes", "tree_memory", "tree_host"}
-TESTS = re.compile(r"\w+_lines|line_words|root_words|host_words|conary_on_host")
+TESTS = re.compile(r"\w+_lines|line_words|root_words|conary_on_host")
 # Where an input is at hand, anything is looked at that is called so.
 ANY_TAKE = re.compile(r"\.take\(|::take\(")
 READERS = {"cli_call", "conary_cli"}

@@ -13,8 +13,8 @@ use Rattle.trove_stream.specs.Trove.{IsTrove}
 use Rattle.trove_stream.specs.declared.rel.RelParts.{RelParts}
 use Rattle.trove_stream.specs.Disjoint.{AreDisjoint}
 use Rattle.trove_stream.specs.Rel.{IsPathOf, IsSameId, IsSameDep, IsRel}
-use Rattle.change_rel.specs.Amends.{HasKey, IsAmended}
-use Rattle.change_rel.specs.Leads.{id_key, dep_key, Leads, LeadsNowhere}
+use Rattle.trove_stream.specs.Amends.{HasKey, IsAmended}
+use Rattle.trove_stream.specs.Leads.{id_key, dep_key, Leads, LeadsNowhere}
 use Rattle.change_rel.specs.Lists.{AreAmended}
 use Rattle.change_rel.proofs.OneResult.{one_amended}
 use Rattle.trove_stream.proofs.cny-base.Lists.{all_from}

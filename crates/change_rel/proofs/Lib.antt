@@ -1,4 +1,3 @@
-pub mod Members
 mod Steps
 mod Passes
 mod OneResult
@@ -8,5 +7,5 @@ pub use Rattle.trove_stream.proofs as trove-stream
 pub use Rattle.trove_stream.proofs.cny-base
 pub use Rattle.trove_stream.proofs.trove-parts
 pub use Rattle.cny_dep.proofs as cny-dep
-pub use Rattle.trove_stream.proofs.file-stream
+pub use Rattle.trove_stream.proofs.cny-stream
 pub mod Unique

@@ -1,4 +1,4 @@
--- One trove at most comes of a trove, and one relative trove at most leads from a trove to another.
+-- What a relative trove leads to are the parts that it makes, and one relative trove at most leads from a trove to another.
 use Rattle.std.proofs.Common.{◌≡◌, ℕ, ◌⊎◌, ⊎_elim, inl, inr, List, [], ◌∷◌, All, Contains, Ordering, refl, sym, ap, ◌∙◌, subst}
 use Rattle.std.specs.Prelude.{◌↔◌}
 use Rattle.std.specs.Cmp.{IsTotalOrder}
@@ -19,17 +19,15 @@ use Rattle.trove_stream.specs.declared.rel.RelParts.{RelParts}
 use Rattle.trove_stream.specs.Above.{dep_total}
 use Rattle.trove_stream.specs.Disjoint.{AreDisjoint}
 use Rattle.trove_stream.specs.Rel.{IsPathOf, IsSameId, IsSameDep}
-use Rattle.change_rel.specs.Amends.{HasKey, Amends, by_key}
-use Rattle.change_rel.specs.Leads.{id_key, dep_key, Leads}
+use Rattle.trove_stream.specs.Amends.{HasKey, Amends, by_key}
+use Rattle.trove_stream.specs.Leads.{id_key, dep_key, Leads}
 use Rattle.change_rel.specs.Lists.{AreAmended}
-use Rattle.change_rel.proofs.Members.{same_members}
+use Rattle.trove_stream.proofs.Members.{same_members}
+use Rattle.trove_stream.proofs.OneLed.{one_made}
 use Rattle.trove_stream.proofs.cny-base.Lists.{contains_cases, contains_first, contains_rest, nothing_in}
 use Rattle.trove_stream.proofs.trove-parts.Orders.{file_total}
 
 -- ---- one result
-
-one_made : {A K : Type 0} (key : A → K) (gone : List K) (set old a b : List A) → Amends key gone set old a → Amends key gone set old b → (x : A) → Contains a x ↔ Contains b x
-one_made key gone set old a b one two x = ((λ h. (two.result x).1 ((one.result x).0 h)), (λ h. (one.result x).1 ((two.result x).0 h)))
 
 -- what a relative trove leads to are the parts that it makes
 pub one_amended : (rel : RelParts) (old a b : TroveParts) → Leads rel old a → AreAmended rel old b → a ≡ b
@@ -43,19 +41,6 @@ one_amended rel old a b one two =
     (one_made dep_key rel.requires_gone rel.requires_added old.requires_ a.requires_ b.requires_ one.required two.required.amends) in
     let provided : a.provides ≡ b.provides = same_members dep_cmp dep_total a.provides b.provides one.trove.lists.provides.rising two.provided.new_rises
     (one_made dep_key rel.provides_gone rel.provides_added old.provides a.provides b.provides one.provided two.provided.amends) in
-    λ i. record { id = id i; files = files i; refs = refs i; requires_ = required i; provides = provided i }
-
-pub one_led : (rel : RelParts) (old a b : TroveParts) → Leads rel old a → Leads rel old b → a ≡ b
-one_led rel old a b one two =
-    let id : a.id ≡ b.id = one.to ∙ sym two.to in
-    let files : a.files ≡ b.files = same_members file_cmp file_total a.files b.files one.trove.lists.files.rising two.trove.lists.files.rising
-    (one_made path_of rel.paths_gone rel.files_set old.files a.files b.files one.files two.files) in
-    let refs : a.refs ≡ b.refs = same_members id_cmp id_total a.refs b.refs one.trove.lists.refs.rising two.trove.lists.refs.rising
-    (one_made id_key rel.refs_gone rel.refs_added old.refs a.refs b.refs one.refs two.refs) in
-    let required : a.requires_ ≡ b.requires_ = same_members dep_cmp dep_total a.requires_ b.requires_ one.trove.lists.requires.rising two.trove.lists.requires.rising
-    (one_made dep_key rel.requires_gone rel.requires_added old.requires_ a.requires_ b.requires_ one.required two.required) in
-    let provided : a.provides ≡ b.provides = same_members dep_cmp dep_total a.provides b.provides one.trove.lists.provides.rising two.trove.lists.provides.rising
-    (one_made dep_key rel.provides_gone rel.provides_added old.provides a.provides b.provides one.provided two.provided) in
     λ i. record { id = id i; files = files i; refs = refs i; requires_ = required i; provides = provided i }
 
 -- ---- one relative trove

@@ -5,11 +5,11 @@ use Rattle.std.specs.List.Sorted.{IsStrictlySortedBy}
 use Rattle.std.specs.Ordering.{ordering_reverse}
 use Rattle.std.specs.declared.cmp.Ordering.TheVariants.{Less, Greater}
 use Rattle.std.proofs.lemmas.List.Elements.{All-cons, All-head, All-tail, All-weaker, All-contains}
-use Rattle.change_rel.specs.Amends.{HasKey, Fits, by_key, IsBelow, IsAmended}
+use Rattle.trove_stream.specs.Amends.{HasKey, Fits, by_key, IsBelow, IsAmended}
 use Rattle.change_rel.specs.Turns.{IsFateByKeys, IsFate}
 use Rattle.change_rel.specs.declared.amending.Fate.{Fate}
 use Rattle.change_rel.specs.declared.amending.Fate.TheVariants as fate
-use Rattle.change_rel.proofs.Members.{contains_drop, pushed, rising_head, front_is, first_is, drop_all}
+use Rattle.trove_stream.proofs.Members.{contains_drop, pushed, rising_head, front_is, first_is, drop_all}
 use Rattle.change_rel.proofs.Steps.{step_gone, step_kept, step_set, step_replaced, rest_set, rest_gone, new_below, not_key, not_in}
 use Rattle.trove_stream.proofs.cny-base.Lists.{all_from, contains_cases, contains_first, contains_rest, nothing_in}
 use Rattle.trove_stream.proofs.Merging.{below_rest, front_at, rising_drop}

@@ -20,7 +20,7 @@ use Rattle.std.proofs.lemmas.Map.Keys.{sorted_tail, Less-from_sorted}
 use Rattle.trove_stream.specs.trove-parts.declared.files.FileAt.{FileAt}
 use Rattle.trove_stream.specs.trove-parts.Files.{path_of, file_cmp}
 use Rattle.change_rel.specs.Sending.{content_of, Records, IsSent, SendsName, AreSent}
-use Rattle.change_rel.proofs.Members.{rising_head}
+use Rattle.trove_stream.proofs.Members.{rising_head}
 use Rattle.trove_stream.proofs.cny-base.Lists.{contains_cases, nothing_in}
 use Rattle.trove_stream.proofs.Equal.{equal_lists}
 

@@ -6,8 +6,8 @@ use Rattle.std.specs.declared.cmp.Ordering.TheVariants.{Less}
 use Rattle.std.proofs.lemmas.Cmp.{tied_itself}
 use Rattle.std.proofs.lemmas.List.Elements.{All-nil, All-cons, All-weaker, All-contains}
 use Rattle.std.proofs.lemmas.Map.Keys.{sorted_tail}
-use Rattle.change_rel.specs.Amends.{HasKey, Remains, by_key, IsBelow, IsAmended}
-use Rattle.change_rel.proofs.Members.{rising_cons, rising_head}
+use Rattle.trove_stream.specs.Amends.{HasKey, Remains, by_key, IsBelow, IsAmended}
+use Rattle.trove_stream.proofs.Members.{rising_cons, rising_head}
 use Rattle.trove_stream.proofs.cny-base.Lists.{all_from, contains_cases, contains_first, contains_rest, nothing_in}
 use Rattle.trove_stream.proofs.cny-base.Sorted.{rising_nil}
 

@@ -1,5 +1,5 @@
 -- A relative trove leads to one trove.
-use Rattle.change_rel.specs.Leads.{Leads}
+use Rattle.trove_stream.specs.Leads.{Leads}
 use Rattle.std.proofs.Common.{◌≡◌}
 use Rattle.trove_stream.specs.declared.parts.TroveParts.{TroveParts}
 use Rattle.trove_stream.specs.declared.rel.RelParts.{RelParts}

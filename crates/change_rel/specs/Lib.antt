@@ -1,9 +1,7 @@
-pub mod Amends
-pub mod Leads
 pub mod Lists
 pub mod Sending
 pub mod Turns
 pub use Rattle.trove_stream.specs.cny-base
-pub use Rattle.trove_stream.specs.file-stream
+pub use Rattle.trove_stream.specs.cny-stream
 pub use Rattle.trove_stream.specs.trove-parts
 pub use Rattle.trove_stream.specs as trove-stream

@@ -6,8 +6,8 @@ use Rattle.trove_stream.specs.trove-parts.Files.{path_of}
 use Rattle.trove_stream.specs.trove-parts.Paths.{path_cmp}
 use Rattle.trove_stream.specs.declared.parts.TroveParts.{TroveParts}
 use Rattle.trove_stream.specs.declared.rel.RelParts.{RelParts}
-use Rattle.change_rel.specs.Amends.{IsAmended}
-use Rattle.change_rel.specs.Leads.{id_key, dep_key}
+use Rattle.trove_stream.specs.Amends.{IsAmended}
+use Rattle.trove_stream.specs.Leads.{id_key, dep_key}
 
 -- the parts have the new id, and each list is what is made of the old one
 pub record AreAmended (rel : RelParts) (old fresh : TroveParts) : Type 0 where

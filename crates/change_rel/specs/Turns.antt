@@ -4,7 +4,7 @@ use Rattle.std.specs.declared.cmp.Ordering.{Ordering}
 use Rattle.std.specs.declared.cmp.Ordering.TheVariants.{Less}
 use Rattle.change_rel.specs.declared.amending.Fate.{Fate}
 use Rattle.change_rel.specs.declared.amending.Fate.TheVariants.{Kept, Gone, Replaced, Behind, Unfit}
-use Rattle.change_rel.specs.Amends.{Fits, IsBelow}
+use Rattle.trove_stream.specs.Amends.{Fits, IsBelow}
 
 -- beside the keys alone, whatever is set
 abbrev pub IsFateByKeys : {A K : Type 0} → (A → K) → (K → K → Ordering) → A → List K → Fate → Type 0

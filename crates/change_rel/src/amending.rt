@@ -1,7 +1,7 @@
 //! What keys that are gone and elements that are set make of a list: one pass over the three.
 ghost use Rattle.std.specs.Prelude.{drop, Contains, IfOk, MatchOption};
 ghost use Rattle.std.specs.List.Sorted.{IsStrictlySortedBy};
-ghost use Rattle.change_rel.specs.Amends.{by_key, HasKey, Fits, IsAmended};
+ghost use Rattle.trove_stream.specs.Amends.{by_key, HasKey, Fits, IsAmended};
 ghost use Rattle.change_rel.specs.Turns.{IsFateByKeys, IsFate};
 
 use crate::difference::{push_copies, push_copy};

@@ -3,15 +3,14 @@ ghost use Rattle.std.specs.Prelude.{◌≡◌, IfOk, IfErr, MatchOption};
 ghost use Rattle.trove_stream.specs.declared.parts.TroveParts.{TroveParts};
 ghost use Rattle.trove_stream.specs.Trove.{IsTrove};
 ghost use Rattle.trove_stream.specs.Rel.{IsRel};
-ghost use Rattle.change_rel.specs.Leads.{Leads, LeadsNowhere, NamesBase, IsMissingBase};
+ghost use Rattle.trove_stream.specs.Leads.{Leads, LeadsNowhere, NamesBase, IsMissingBase};
 ghost use Rattle.change_rel.specs.Lists.{AreAmended};
 
 use crate::amending::amended;
-use crate::laws::one_result;
 use std::alloc::Global;
 use trove_stream::cny_base::{Copies, Fault, OutOfMemory, Refusal};
 use trove_stream::trove_parts::{TroveId, id_text};
-use trove_stream::{RelParts, RelTrove, Trove, TroveParts};
+use trove_stream::{RelParts, RelTrove, Trove, TroveParts, one_result};
 
 // The new id, and what is made of each list; none where one of the lists isn't that of a base.
 fn amended_parts(

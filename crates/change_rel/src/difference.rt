@@ -1,7 +1,7 @@
 //! What leads from one list to another: one pass over both.
 ghost use Rattle.std.specs.Prelude.{◌≡◌, ◌⊎◌, ◌++◌, ◌∷◌, [], IfOk, OnOk, map};
 ghost use Rattle.std.specs.List.Sorted.{IsStrictlySortedBy};
-ghost use Rattle.change_rel.specs.Amends.{by_key, IsAmended};
+ghost use Rattle.trove_stream.specs.Amends.{by_key, IsAmended};
 
 use crate::element::Element;
 use std::alloc::Global;

@@ -9,7 +9,7 @@ ghost use Rattle.trove_stream.specs.trove-parts.Order.{id_cmp, id_total};
 ghost use Rattle.trove_stream.specs.trove-parts.Files.{path_of};
 ghost use Rattle.trove_stream.specs.trove-parts.Paths.{path_cmp};
 ghost use Rattle.trove_stream.specs.Above.{dep_total};
-ghost use Rattle.change_rel.specs.Leads.{id_key, dep_key};
+ghost use Rattle.trove_stream.specs.Leads.{id_key, dep_key};
 
 use crate::same::is_same_record;
 use cny_dep::Dep;

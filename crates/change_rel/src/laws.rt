@@ -1,15 +1,10 @@
-//! A relative trove leads to one trove at most, and one relative trove at most leads from a trove to another.
+//! One relative trove at most leads from a trove to another.
 ghost use Rattle.std.specs.Prelude.{◌≡◌};
 ghost use Rattle.trove_stream.specs.declared.parts.TroveParts.{TroveParts};
 ghost use Rattle.trove_stream.specs.declared.rel.RelParts.{RelParts};
-ghost use Rattle.change_rel.specs.Leads.{Leads};
+ghost use Rattle.trove_stream.specs.Leads.{Leads};
 
 use trove_stream::trove_parts::{distinct_ids, distinct_lists};
-
-/// A relative trove leads from a trove to one other at most.
-pub fn one_result()
-    ensures { (rel : RelParts) (old a b : TroveParts) → Leads rel old a → Leads rel old b → a ≡ b }
-{}
 
 /// At most one relative trove leads from a trove to another.
 pub fn one_relative()

@@ -12,8 +12,8 @@ mod same;
 mod sending;
 
 pub use applying::{apply, missing_base};
-pub use laws::{one_relative, one_result};
+pub use laws::one_relative;
 pub use relating::relative;
 pub use sending::{ContentNames, to_send};
 pub use trove_stream;
-pub use trove_stream::{cny_base, file_stream, trove_parts};
+pub use trove_stream::{cny_base, cny_stream, trove_parts};

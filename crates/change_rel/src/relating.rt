@@ -1,7 +1,7 @@
 //! The relative trove that leads from one trove to another.
 ghost use Rattle.std.specs.Prelude.{◌≡◌, ◌≢◌, IfOk};
 ghost use Rattle.trove_stream.specs.declared.rel.RelParts.{RelParts};
-ghost use Rattle.change_rel.specs.Leads.{Leads};
+ghost use Rattle.trove_stream.specs.Leads.{Leads};
 
 use crate::difference::difference;
 use crate::laws::one_relative;

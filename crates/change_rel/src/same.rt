@@ -1,9 +1,9 @@
 //! Whether two records are one.
 ghost use Rattle.std.specs.Prelude.{◌≡◌, ◌↔◌, IsTrue};
-ghost use Rattle.trove_stream.specs.file-stream.declared.record.FileRec.TheVariants.{Dir, File, Link};
+ghost use Rattle.trove_stream.specs.cny-stream.declared.record.FileRec.TheVariants.{Dir, File, Link};
 
 use trove_stream::cny_base::{Mode, Target};
-use trove_stream::file_stream::{FileRec, Flags, Owner};
+use trove_stream::cny_stream::{FileRec, Flags, Owner};
 
 fn is_same_owner(one: &Owner, other: &Owner) -> bool
     ensures { IsTrue result ↔ (one.now ≡ other.now) }

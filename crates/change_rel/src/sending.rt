@@ -8,7 +8,7 @@ use crate::same::is_same_name;
 use std::alloc::Global;
 use trove_stream::Trove;
 use trove_stream::cny_base::{ListOf, OutOfMemory, Path};
-use trove_stream::file_stream::FileRec;
+use trove_stream::cny_stream::FileRec;
 use trove_stream::trove_parts::FileAt;
 
 /// A list of names of contents, each the SHA-1 of the content's bytes.

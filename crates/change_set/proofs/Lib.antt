@@ -11,5 +11,5 @@ pub mod Written
 pub use Rattle.trove_stream.proofs.trove-parts
 pub use Rattle.trove_stream.proofs.cny-base
 pub use Rattle.trove_stream.proofs as trove-stream
-pub use Rattle.trove_stream.proofs.file-stream
+pub use Rattle.trove_stream.proofs.cny-stream
 pub mod Carrying

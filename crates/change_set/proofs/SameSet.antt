@@ -4,8 +4,8 @@ use Rattle.std.proofs.lemmas.List.{append_cancel_left}
 use Rattle.std.proofs.lemmas.List.Elements.{All-head, All-tail, All-weaker}
 use Rattle.cny_stream.specs.Item.{FitsItem}
 use Rattle.cny_stream.proofs.ItemLaws.{same_item}
-use Rattle.trove_stream.specs.file-stream.declared.encoding.Encoding.{Encoding}
-use Rattle.trove_stream.specs.file-stream.declared.encoding.Encoding.TheVariants.{Compact}
+use Rattle.trove_stream.specs.cny-stream.declared.encoding.Encoding.{Encoding}
+use Rattle.trove_stream.specs.cny-stream.declared.encoding.Encoding.TheVariants.{Compact}
 use Rattle.trove_stream.specs.declared.rel.RelParts.{RelParts}
 use Rattle.trove_stream.specs.RelBytes.{IsStreamOf, rel_bytes}
 use Rattle.change_set.specs.declared.change.Part.{Part}

@@ -4,8 +4,8 @@ use Rattle.std.specs.List.{list_any}
 use Rattle.std.proofs.lemmas.List.Elements.{All-contains}
 use Rattle.std.proofs.lemmas.List.Folds.{Any-from_list_any}
 use Rattle.trove_stream.specs.cny-base.declared.limits.TheConstants.{CONTENT_LIMIT, CONTENT_ITEM_LIMIT}
-use Rattle.trove_stream.specs.file-stream.Record.{has_name_and_size}
-use Rattle.trove_stream.proofs.file-stream.RecordLaws.{size_fits}
+use Rattle.trove_stream.specs.cny-stream.Record.{has_name_and_size}
+use Rattle.trove_stream.proofs.cny-stream.RecordLaws.{size_fits}
 use Rattle.trove_stream.specs.trove-parts.declared.files.FileAt.{FileAt}
 use Rattle.trove_stream.specs.trove-parts.Files.{IsFileAt}
 use Rattle.change_set.specs.declared.change.Part.{Part}

@@ -8,7 +8,7 @@ use Rattle.std.specs.declared.cmp.Ordering.{Ordering}
 use Rattle.sha1.specs.Sha1.{sha1}
 use Rattle.trove_stream.specs.cny-base.declared.limits.TheConstants.{PARTS_LIMIT}
 use Rattle.cny_stream.specs.Item.{FitsItem, item_bytes}
-use Rattle.trove_stream.specs.file-stream.Record.{has_name_and_size}
+use Rattle.trove_stream.specs.cny-stream.Record.{has_name_and_size}
 use Rattle.trove_stream.specs.trove-parts.declared.files.FileAt.{FileAt}
 use Rattle.trove_stream.specs.Rel.{IsRel}
 use Rattle.trove_stream.specs.RelBytes.{rel_bytes}

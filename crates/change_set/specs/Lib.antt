@@ -5,6 +5,6 @@ pub mod Index
 pub mod Reading
 pub mod TooLarge
 pub use Rattle.trove_stream.specs.cny-base
-pub use Rattle.trove_stream.specs.file-stream
+pub use Rattle.trove_stream.specs.cny-stream
 pub use Rattle.trove_stream.specs.trove-parts
 pub use Rattle.trove_stream.specs as trove-stream

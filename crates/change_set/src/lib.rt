@@ -18,5 +18,5 @@ pub use parts::part_of;
 pub use reading::decode;
 pub use recorded::Index;
 pub use trove_stream;
-pub use trove_stream::{cny_base, file_stream, trove_parts};
+pub use trove_stream::{cny_base, cny_stream, trove_parts};
 pub use writing::encode;

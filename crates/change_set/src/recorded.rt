@@ -1,7 +1,7 @@
 //! The names and sizes of contents that the file records of parts have.
 ghost use Rattle.std.specs.Prelude.{◌≡◌, ◌||◌, ◌++◌, [], ◌∷◌, IfOk, OnOk, List, ℕ};
 ghost use Rattle.std.specs.List.{list_any};
-ghost use Rattle.trove_stream.specs.file-stream.Record.{has_name_and_size};
+ghost use Rattle.trove_stream.specs.cny-stream.Record.{has_name_and_size};
 ghost use Rattle.change_set.specs.declared.change.Part.{Part};
 ghost use Rattle.change_set.specs.ChangeSet.{files_of, has_record};
 ghost use Rattle.change_set.specs.Index.{has_key, has_file, IsIndexOf};
@@ -10,7 +10,7 @@ use crate::change::Part;
 use std::alloc::Global;
 use std::collections::BTreeSet;
 use trove_stream::cny_base::OutOfMemory;
-use trove_stream::file_stream::FileRec;
+use trove_stream::cny_stream::FileRec;
 use trove_stream::trove_parts::FileAt;
 
 // The name and the size of a content.

@@ -2,7 +2,7 @@
 use Rattle.std.proofs.Common.{◌≡◌, ◌≤◌, ℕ, Bool, List, Option, Some, Result, Ok, Err, IfSome, refl, sym, ap, ◌∙◌, subst, inl, inr, arith}
 use Rattle.cny_laws.specs.system-core.cny-base.declared.refusal.Refusal.{Refusal}
 use Rattle.cny_laws.specs.system-core.cny-base.declared.stop.Stop.{Stop}
-use Rattle.cny_flow.specs.Flow.{SourceState, SinkState}
+use Rattle.repo_load.specs.cny-base.Flow.{SourceState, SinkState}
 use Rattle.cny_laws.specs.system-core.tree-disk.Tree.{Tree}
 use Rattle.cny_laws.specs.declared.failure.Failure.{Failure}
 use Rattle.cny_laws.specs.Shown.{IsShown}

@@ -29,7 +29,7 @@ use Rattle.cny_laws.specs.Stops.{root_failure, repository_failure}
 use Rattle.cny_laws.specs.Stores.{root_store, repository_store}
 use Rattle.local_db.specs.declared.db.Db.{Db}
 use Rattle.cny_laws.specs.WholeCall.{CallCause, CallFacts}
-use Rattle.cny_flow.specs.Flow.{SourceState, SinkState}
+use Rattle.repo_load.specs.cny-base.Flow.{SourceState, SinkState}
 use Rattle.cny_laws.proofs.system-core.Opened.{kept_so}
 use Rattle.cny_laws.specs.system-core.cny-base.declared.stop.Stop.TheVariants as stop
 use Rattle.cny_laws.specs.declared.failure.Failure.TheVariants as failure

@@ -2,7 +2,7 @@
 use Rattle.std.proofs.Common.{◌≡◌, Bool, true, List, ℕ, Ok, Err, sym, ap, subst, inl, inr, refl}
 use Rattle.cny_laws.specs.system-core.tree-disk.Clear.{is_within}
 use Rattle.cny_laws.specs.system-core.tree-disk.Confined.{Among, Confined}
-use Rattle.cny_flow.specs.Flow.{SourceState}
+use Rattle.repo_load.specs.cny-base.Flow.{SourceState}
 use Rattle.cny_laws.specs.system-core.tree-disk.Tree.{Name}
 use Rattle.cny_laws.specs.system-core.tree-disk.Disk.{DiskModel, HasRead, IsDisk}
 use Rattle.cny_laws.proofs.system-core.tree-disk.ConfinedLaws.{confined_start}

@@ -5,7 +5,7 @@ use Rattle.std.proofs.lemmas.Bool.{ltb-false}
 use Rattle.std.proofs.lemmas.List.{drop_all}
 use Rattle.cny_laws.specs.system-core.cny-base.declared.refusal.Refusal.TheVariants.{TooLarge}
 use Rattle.cny_laws.specs.system-core.cny-base.declared.refusal.What.TheVariants.{Input}
-use Rattle.cny_flow.specs.Flow.{SinkState}
+use Rattle.repo_load.specs.cny-base.Flow.{SinkState}
 use Rattle.cny_laws.specs.system-core.tree-disk.Disk.{DiskModel, IsDisk}
 use Rattle.cny_laws.specs.system-core.tree-disk.Confined.{Among}
 use Rattle.cny_laws.proofs.system-core.tree-disk.ConfinedLaws.{confined_start, leaves_weaker}

@@ -2,7 +2,7 @@
 use Rattle.std.proofs.Common.{◌≡◌, ◌≤◌, ℕ, List, Option, Some, None, Result, Ok, Err, refl, sym, ap, subst, inr, arith}
 use Rattle.std.specs.Io.KnownBytes.{Appends, Keeps}
 use Rattle.cny_laws.specs.system-core.cny-base.declared.refusal.Refusal.{Refusal}
-use Rattle.cny_flow.specs.Flow.{SinkState, AppendsPart}
+use Rattle.repo_load.specs.cny-base.Flow.{SinkState, AppendsPart}
 use Rattle.cny_laws.specs.system-core.tree-disk.Disk.{DiskModel}
 use Rattle.cny_laws.specs.system-core.tree-disk.Tree.{Name}
 use Rattle.cny_laws.specs.declared.failure.Failure.{Failure}

@@ -4,7 +4,7 @@ use Rattle.std.specs.Prelude.{◌⊎◌, IsTrue}
 use Rattle.std.specs.FinMap.{get}
 use Rattle.cny_laws.specs.system-core.cny-base.declared.refusal.Refusal.{Refusal}
 use Rattle.cny_laws.specs.system-core.cny-base.declared.stop.Stop.{Stop}
-use Rattle.cny_flow.specs.Flow.{SourceState}
+use Rattle.repo_load.specs.cny-base.Flow.{SourceState}
 use Rattle.cny_laws.specs.system-core.tree-disk.Disk.{DiskModel, IsDisk}
 use Rattle.cny_laws.specs.system-core.tree-disk.Confined.{LeavesOnly}
 use Rattle.cny_laws.specs.system-core.tree-disk.Unfailed.{UnlessFailed}

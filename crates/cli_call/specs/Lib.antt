@@ -12,7 +12,7 @@ pub use Rattle.cny_laws.specs.system-core.change-set
 pub use Rattle.cny_laws.specs.system-core.cny-base
 pub use Rattle.cny_laws.specs.system-core.conflict-plan
 pub use Rattle.cny_laws.specs.system-core.content-store
-pub use Rattle.cny_laws.specs.system-core.file-stream
+pub use Rattle.cny_laws.specs.system-core.cny-stream
 pub use Rattle.cny_laws.specs.system-core.job-record
 pub use Rattle.cny_laws.specs.system-core.past-jobs
 pub use Rattle.cny_laws.specs.system-core.job-targets

@@ -3,7 +3,7 @@ use Rattle.std.specs.Prelude.{◌≡◌, ℕ, ◌≤◌, false, true, IsTrue, Li
 use Rattle.std.specs.Io.KnownBytes.{Appends, Keeps}
 use Rattle.cny_laws.specs.system-core.cny-base.Count.{Rose}
 use Rattle.cny_laws.specs.system-core.cny-base.declared.refusal.Refusal.{Refusal}
-use Rattle.cny_flow.specs.Flow.{SinkModel, SinkState, sink_state, AppendsPart}
+use Rattle.repo_load.specs.cny-base.Flow.{SinkModel, SinkState, sink_state, AppendsPart}
 use Rattle.cny_laws.specs.system-core.tree-disk.Clear.{is_within}
 use Rattle.cny_laws.specs.system-core.tree-disk.Confined.{Among, Confined, LeavesOnly}
 use Rattle.cny_laws.specs.system-core.tree-disk.Disk.{DiskModel, Reads}

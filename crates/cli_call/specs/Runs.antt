@@ -1,6 +1,6 @@
 -- A command's whole call by its steps: the disks are opened, its input is read, it is performed, and what it answers is written.
 use Rattle.std.specs.Prelude.{◌≡◌, ◌⊎◌, ℕ, List, Result, Ok, Err}
-use Rattle.cny_flow.specs.Flow.{SourceState}
+use Rattle.repo_load.specs.cny-base.Flow.{SourceState}
 use Rattle.cny_laws.specs.system-core.tree-disk.Disk.{DiskModel}
 use Rattle.cny_laws.specs.declared.failure.Failure.{Failure}
 use Rattle.cny_laws.specs.declared.opened.Opened.{Opened}

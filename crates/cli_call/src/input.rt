@@ -2,14 +2,14 @@
 ghost use Rattle.std.specs.Prelude.{◌≡◌, ◌⊎◌, ◌≤◌, ◌+◌, ◌-◌, ◌<◌, IfOk, IsErrOf, length, OnErr, List, ℕ, ◌++◌};
 ghost use Rattle.std.specs.Io.KnownBytes.{Consumes, IsAtEnd};
 ghost use Rattle.cny_laws.specs.system-core.cny-base.Count.{Rose};
-ghost use Rattle.cny_flow.specs.Flow.{source_state};
+ghost use Rattle.repo_load.specs.cny-base.Flow.{source_state};
 ghost use Rattle.cli_call.specs.Input.{ReadsInput};
 ghost use Rattle.cny_laws.specs.Input.{input_limit, IsOfSome};
 ghost use Rattle.cny_laws.specs.Reading.{ReadsGiven};
 
-use cny_flow::{FlowFault, Source};
 use cny_laws::Failure;
 use cny_laws::system_core::cny_base::{Bytes, INPUT_LIMIT, Refusal, What};
+use repo_load::cny_base::{FlowFault, Source};
 use std::alloc::Global;
 
 const PIECE: usize = 4096;

@@ -2,14 +2,14 @@
 ghost use Rattle.std.specs.Prelude.{◌≡◌, ◌⊎◌, ◌++◌, IfOk, MatchBool, string_bytes, ◌∷◌, []};
 ghost use Rattle.std.specs.Io.KnownBytes.{Appends, Keeps};
 ghost use Rattle.cny_laws.specs.system-core.cny-base.Count.{Rose};
-ghost use Rattle.cny_flow.specs.Flow.{sink_state};
+ghost use Rattle.repo_load.specs.cny-base.Flow.{sink_state};
 ghost use Rattle.cny_laws.specs.Report.{failure_text, status_of, MustBeTold, Reports};
 
 use crate::texts::joined;
-use cny_flow::{FlowFault, Sink};
 use cny_laws::Failure;
 use cny_laws::system_core::cny_base::{OutOfMemory, Text};
 use cny_report::refusal_text;
+use repo_load::cny_base::{FlowFault, Sink};
 use std::alloc::Global;
 
 fn text_of_failure(alloc: Global, failure: &Failure) -> Result<Text, OutOfMemory>

@@ -1,10 +1,10 @@
 //! What a command answers, written.
-ghost use Rattle.cny_flow.specs.Flow.{sink_state};
+ghost use Rattle.repo_load.specs.cny-base.Flow.{sink_state};
 ghost use Rattle.cli_call.specs.Line.{WritesAnswer};
 
-use cny_flow::{FlowFault, Sink};
 use cny_laws::Failure;
 use cny_laws::system_core::cny_base::Bytes;
+use repo_load::cny_base::{FlowFault, Sink};
 
 /// Writes what a command answered, by one call of the sink; where that is no byte, or the command failed, by none.
 pub fn write_answer<O: Sink>(answered: Result<Bytes, Failure>, out: &mut O) -> Result<(), Failure>

@@ -30,3 +30,5 @@ pub mod OptionValues
 pub mod Reaching
 pub mod Sorted
 pub mod Words
+pub mod Comparing
+pub mod FlowParts

@@ -13,3 +13,7 @@ pub mod Modes
 pub mod Reach
 pub mod Refusals
 pub mod Sized
+pub mod Compare
+pub mod Flow
+pub mod Memory
+pub mod Standard

@@ -3,6 +3,14 @@ pub mod Cuts
 pub mod Sorted
 pub mod Separated
 pub mod Texts
-pub mod Parts
+pub mod DepParts
 pub mod Faults
 pub mod Found
+pub mod Again
+pub mod FlavorFound
+pub mod Fronts
+pub mod Loops
+pub mod Plain
+pub mod Putting
+pub mod Totals
+pub mod Utf8

@@ -4,3 +4,9 @@ pub mod Listing
 pub mod Relaxed
 pub mod Satisfies
 pub mod Order
+pub mod Canonical
+pub mod Equality
+pub mod FlavorOrder
+pub mod FlavorReading
+pub mod Score
+pub mod Spelling

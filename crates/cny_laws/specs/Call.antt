@@ -1,7 +1,7 @@
 -- What a call works on, and how its disks are opened.
 use Rattle.std.specs.Prelude.{◌≡◌, ◌⊎◌, ℕ, true, IsTrue, List, Option, Result, Ok, Err}
 use Rattle.system_core.specs.cny-base.declared.stop.Stop.{Stop}
-use Rattle.cny_flow.specs.Flow.{SourceModel, SourceState, source_state, SinkModel, SinkState, sink_state}
+use Rattle.repo_load.specs.cny-base.Flow.{SourceModel, SourceState, source_state, SinkModel, SinkState, sink_state}
 use Rattle.system_core.specs.tree-disk.Disk.{DiskModel}
 use Rattle.repo_index.specs.Catalogue.{CatalogueParts, has_content}
 use Rattle.repo_load.specs.Contents.{FindsContent}

@@ -2,7 +2,7 @@
 use Rattle.std.specs.Prelude.{◌≡◌, ℕ, ◌≤◌, Bool, true, false, List, [], Some, IfSome, Result, Ok, Err}
 use Rattle.system_core.specs.cny-base.Count.{Rose}
 use Rattle.system_core.specs.cny-base.declared.refusal.Refusal.{Refusal}
-use Rattle.cny_flow.specs.Flow.{SourceState}
+use Rattle.repo_load.specs.cny-base.Flow.{SourceState}
 use Rattle.cny_laws.specs.declared.failure.Failure.{Failure}
 use Rattle.cny_laws.specs.declared.failure.Failure.TheVariants as failure
 use Rattle.cny_laws.specs.Input.{within_limit, left_after_reading, IsOfSome}

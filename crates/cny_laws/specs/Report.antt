@@ -2,7 +2,7 @@
 use Rattle.std.specs.Prelude.{◌≡◌, ◌⊎◌, ℕ, List, [], ◌++◌, ◌∷◌, Result, Ok, Err, codes}
 use Rattle.std.specs.Io.KnownBytes.{Appends, Keeps}
 use Rattle.system_core.specs.cny-base.Count.{Rose}
-use Rattle.cny_flow.specs.Flow.{SinkState}
+use Rattle.repo_load.specs.cny-base.Flow.{SinkState}
 use Rattle.cny_report.specs.Refusals.{refusal_text}
 use Rattle.cny_laws.specs.declared.failure.Failure.{Failure}
 use Rattle.cny_laws.specs.declared.failure.Failure.TheVariants as failure

@@ -3,7 +3,7 @@ use Rattle.std.specs.Prelude.{◌≡◌, ◌⊎◌, ℕ, ◌≤◌, true, false,
 use Rattle.std.specs.Io.KnownBytes.{Appends, Keeps}
 use Rattle.system_core.specs.cny-base.Count.{Rose}
 use Rattle.system_core.specs.cny-base.declared.refusal.Refusal.{Refusal}
-use Rattle.cny_flow.specs.Flow.{SinkState, AppendsPart}
+use Rattle.repo_load.specs.cny-base.Flow.{SinkState, AppendsPart}
 use Rattle.system_core.specs.tree-disk.Tree.{Name, Tree}
 use Rattle.system_core.specs.tree-disk.Disk.{DiskModel, HasRead, Reads}
 use Rattle.system_core.specs.tree-disk.Clear.{is_within}

@@ -16,11 +16,11 @@ use Rattle.manifest_troves.specs.cny-base.declared.limits.TheConstants.{CONTENT_
 use Rattle.manifest_troves.specs.cny-base.declared.name.NameKind.{NameKind}
 use Rattle.manifest_troves.specs.cny-base.declared.name.NameKind.TheVariants.{Component, Package, Group}
 use Rattle.cny_dep.specs.Dep.{dep_text}
-use Rattle.cny_flavor.specs.declared.parts.Parts.{Parts}
-use Rattle.cny_flavor.specs.Canonical.{flavor_text}
+use Rattle.cny_dep.specs.declared.parts.Parts.{Parts}
+use Rattle.cny_dep.specs.Canonical.{flavor_text}
 use Rattle.cny_version.specs.Version.{WholeVersion}
-use Rattle.manifest_troves.specs.file-stream.declared.record.FileRec.{FileRec}
-use Rattle.manifest_troves.specs.file-stream.declared.record.FileRec.TheVariants as rec
+use Rattle.manifest_troves.specs.cny-stream.declared.record.FileRec.{FileRec}
+use Rattle.manifest_troves.specs.cny-stream.declared.record.FileRec.TheVariants as rec
 use Rattle.manifest_troves.specs.trove-parts.declared.id.TroveId.{TroveId}
 use Rattle.manifest_troves.specs.trove-parts.Id.{IsTroveId}
 use Rattle.manifest_troves.specs.trove-parts.Order.{id_cmp, id_total}

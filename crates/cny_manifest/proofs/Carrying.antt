@@ -11,9 +11,9 @@ use Rattle.sha1.specs.Sha1.{sha1}
 use Rattle.manifest_troves.specs.cny-base.Name.{kind_of_name}
 use Rattle.manifest_troves.specs.cny-base.declared.name.NameKind.{NameKind}
 use Rattle.manifest_troves.specs.cny-base.declared.name.NameKind.TheVariants.{Component, Package, Group}
-use Rattle.manifest_troves.specs.file-stream.Record.{IsFileRecord, has_name_and_size}
-use Rattle.manifest_troves.specs.file-stream.declared.record.FileRec.{FileRec}
-use Rattle.manifest_troves.specs.file-stream.declared.record.FileRec.TheVariants as rec
+use Rattle.manifest_troves.specs.cny-stream.Record.{IsFileRecord, has_name_and_size}
+use Rattle.manifest_troves.specs.cny-stream.declared.record.FileRec.{FileRec}
+use Rattle.manifest_troves.specs.cny-stream.declared.record.FileRec.TheVariants as rec
 use Rattle.manifest_troves.specs.trove-parts.declared.files.FileAt.{FileAt}
 use Rattle.manifest_troves.specs.trove-parts.Files.{IsFileAt}
 use Rattle.manifest_troves.specs.trove-stream.declared.parts.TroveParts.{TroveParts}

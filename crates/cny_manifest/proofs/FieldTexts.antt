@@ -20,7 +20,7 @@ use Rattle.cny_version.proofs.cny-base.Doubling.{both}
 use Rattle.cny_version.proofs.cny-base.ByteLists.{bytes_itself as bytes_same, bytes_mean as same_bytes}
 use Rattle.manifest_troves.proofs.trove-parts.IdFields.{letter_in_word as letter_is}
 use Rattle.cny_version.proofs.cny-base.Bools.{or_left}
-use Rattle.manifest_troves.proofs.file-stream.Fields.{guarded as then_some}
+use Rattle.manifest_troves.proofs.cny-stream.Fields.{guarded as then_some}
 
 -- ---- steps that found something
 

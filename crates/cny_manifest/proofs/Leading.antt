@@ -13,8 +13,8 @@ use Rattle.manifest_troves.specs.cny-base.Number.{octal_text}
 use Rattle.manifest_troves.specs.cny-base.declared.limits.TheConstants.{CONTENT_LIMIT}
 use Rattle.manifest_troves.specs.cny-base.declared.name.NameKind.{NameKind}
 use Rattle.manifest_troves.specs.cny-base.declared.name.NameKind.TheVariants.{Component, Package, Group}
-use Rattle.cny_flavor.specs.declared.parts.Parts.{Parts}
-use Rattle.cny_flavor.specs.Canonical.{flavor_text}
+use Rattle.cny_dep.specs.declared.parts.Parts.{Parts}
+use Rattle.cny_dep.specs.Canonical.{flavor_text}
 use Rattle.cny_version.specs.Version.{WholeVersion, version_text}
 use Rattle.manifest_troves.specs.trove-parts.declared.id.TroveId.{TroveId}
 use Rattle.manifest_troves.specs.trove-parts.Id.{IsTroveId, in_brackets, id_text_of}

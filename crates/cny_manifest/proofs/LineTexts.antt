@@ -12,8 +12,8 @@ use Rattle.manifest_troves.specs.cny-base.Target.{is_target}
 use Rattle.manifest_troves.specs.cny-base.declared.name.NameKind.{NameKind}
 use Rattle.manifest_troves.specs.cny-base.declared.name.NameKind.TheVariants.{Component, Package, Group}
 use Rattle.cny_version.specs.Version.{WholeVersion}
-use Rattle.manifest_troves.specs.file-stream.declared.record.Flags.{Flags}
-use Rattle.manifest_troves.specs.file-stream.Owner.{OwnerNames, is_owner, is_owner_word, root_owner}
+use Rattle.manifest_troves.specs.cny-stream.declared.record.Flags.{Flags}
+use Rattle.manifest_troves.specs.cny-stream.Owner.{OwnerNames, is_owner, is_owner_word, root_owner}
 use Rattle.manifest_troves.specs.declared.lines.DepLine.{DepLine}
 use Rattle.cny_manifest.specs.declared.entries.DirLine.{DirLine}
 use Rattle.cny_manifest.specs.declared.entries.FileLine.{FileLine}
@@ -29,7 +29,7 @@ use Rattle.cny_manifest.proofs.FieldTexts.{bind_some, some_is, cut_by, field_tak
 use Rattle.cny_version.proofs.cny-base.Doubling.{both}
 use Rattle.cny_version.proofs.cny-base.ByteLists.{bytes_itself as bytes_same, bytes_mean as same_bytes}
 use Rattle.cny_version.proofs.cny-base.Again.{not_true as is_not}
-use Rattle.manifest_troves.proofs.file-stream.Fields.{guarded as then_some}
+use Rattle.manifest_troves.proofs.cny-stream.Fields.{guarded as then_some}
 
 abbrev no_space : ℕ → Bool
 no_space b = not (b == 32)

@@ -8,10 +8,10 @@ use Rattle.cny_version.specs.Version.{WholeVersion, IsVersion}
 use Rattle.cny_version.specs.Filled.{filled}
 use Rattle.cny_version.specs.Reading.{version_found}
 use Rattle.cny_version.proofs.VersionReaders.{abbreviation_back}
-use Rattle.cny_flavor.proofs.Plain.{relaxed_read}
+use Rattle.cny_dep.proofs.Plain.{relaxed_read}
 use Rattle.cny_dep.specs.Dep.{Dependency}
 use Rattle.cny_dep.specs.Relaxed.{IsRelaxedText}
-use Rattle.cny_dep.proofs.Parts.{one_dep}
+use Rattle.cny_dep.proofs.DepParts.{one_dep}
 use Rattle.manifest_troves.specs.trove-parts.declared.id.TroveId.{TroveId}
 use Rattle.manifest_troves.specs.trove-parts.Id.{IsTroveId, id_text_of}
 use Rattle.manifest_troves.specs.trove-stream.declared.parts.TroveParts.{TroveParts}

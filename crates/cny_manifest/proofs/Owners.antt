@@ -5,7 +5,7 @@ use Rattle.std.specs.Str.{is_utf8}
 use Rattle.std.proofs.lemmas.Str.{IsUtf8-from_ascii, is_utf8-from_IsUtf8}
 use Rattle.manifest_troves.specs.cny-base.Name.{is_word}
 use Rattle.manifest_troves.proofs.cny-base.Utf8Laws.{word_ascii}
-use Rattle.manifest_troves.specs.file-stream.Owner.{is_owner_word}
+use Rattle.manifest_troves.specs.cny-stream.Owner.{is_owner_word}
 use Rattle.cny_manifest.specs.Entries.{names_if}
 use Rattle.cny_version.proofs.cny-base.Bools.{and_false}
 

@@ -5,9 +5,9 @@ use Rattle.std.specs.Str.{is_utf8}
 use Rattle.std.proofs.lemmas.Bool.{true≢false, eqb-true}
 use Rattle.manifest_troves.specs.cny-base.declared.text.TextFault.{TextFault}
 use Rattle.manifest_troves.specs.cny-base.declared.text.TextFault.TheVariants as text
-use Rattle.cny_flavor.specs.declared.parts.Parts.{Parts}
-use Rattle.cny_flavor.specs.Canonical.{flavor_text}
-use Rattle.cny_flavor.specs.Spelling.{IsRelaxedText, IsReadAs}
+use Rattle.cny_dep.specs.declared.parts.Parts.{Parts}
+use Rattle.cny_dep.specs.Canonical.{flavor_text}
+use Rattle.cny_dep.specs.Spelling.{IsRelaxedText, IsReadAs}
 use Rattle.cny_version.specs.Version.{WholeVersion, IsVersion}
 use Rattle.cny_version.specs.Filled.{AbbreviatedVersion, filled, abbreviated_text, IsAbbreviationOf, IsAbbreviatedText}
 use Rattle.manifest_troves.specs.trove-parts.declared.id.TroveId.{TroveId}

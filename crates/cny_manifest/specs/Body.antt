@@ -8,11 +8,11 @@ use Rattle.sha1.specs.Sha1.{sha1}
 use Rattle.manifest_troves.specs.cny-base.Name.{kind_of_name}
 use Rattle.manifest_troves.specs.cny-base.declared.name.NameKind.{NameKind}
 use Rattle.manifest_troves.specs.cny-base.declared.name.NameKind.TheVariants.{Component, Package, Group}
-use Rattle.cny_flavor.specs.declared.parts.Parts.{Parts}
-use Rattle.cny_flavor.specs.Canonical.{flavor_text, no_parts}
+use Rattle.cny_dep.specs.declared.parts.Parts.{Parts}
+use Rattle.cny_dep.specs.Canonical.{flavor_text, no_parts}
 use Rattle.cny_version.specs.Version.{WholeVersion}
 use Rattle.cny_dep.specs.Dep.{dep_text}
-use Rattle.manifest_troves.specs.file-stream.declared.record.FileRec.TheVariants as rec
+use Rattle.manifest_troves.specs.cny-stream.declared.record.FileRec.TheVariants as rec
 use Rattle.manifest_troves.specs.trove-parts.declared.id.TroveId.{TroveId}
 use Rattle.manifest_troves.specs.trove-parts.Order.{id_cmp}
 use Rattle.manifest_troves.specs.trove-parts.declared.files.FileAt.{FileAt}

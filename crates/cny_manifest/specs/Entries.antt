@@ -5,8 +5,8 @@ use Rattle.std.specs.Str.{bytes_eq}
 use Rattle.manifest_troves.specs.cny-base.Name.{is_colon}
 use Rattle.manifest_troves.specs.cny-base.Path.{is_path}
 use Rattle.manifest_troves.specs.cny-base.Target.{is_target}
-use Rattle.manifest_troves.specs.file-stream.declared.record.Flags.{Flags}
-use Rattle.manifest_troves.specs.file-stream.Owner.{OwnerNames, is_owner, root_owner}
+use Rattle.manifest_troves.specs.cny-stream.declared.record.Flags.{Flags}
+use Rattle.manifest_troves.specs.cny-stream.Owner.{OwnerNames, is_owner, root_owner}
 use Rattle.cny_manifest.specs.declared.entries.DirLine.{DirLine}
 use Rattle.cny_manifest.specs.declared.entries.FileLine.{FileLine}
 use Rattle.cny_manifest.specs.Lines.{◌&>◌, cut_at, field_at, after, mode_of, size_of}

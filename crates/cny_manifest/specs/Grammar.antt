@@ -7,9 +7,9 @@ use Rattle.manifest_troves.specs.cny-base.declared.name.NameKind.TheVariants.{Co
 use Rattle.manifest_troves.specs.cny-base.declared.limits.TheConstants.{CONTENT_LIMIT}
 use Rattle.cny_version.specs.Version.{WholeVersion, IsVersion}
 use Rattle.cny_version.specs.Filled.{IsAbbreviationOf}
-use Rattle.cny_flavor.specs.declared.parts.Parts.{Parts}
-use Rattle.cny_flavor.specs.Canonical.{flavor_text}
-use Rattle.cny_flavor.specs.Spelling as flavor
+use Rattle.cny_dep.specs.declared.parts.Parts.{Parts}
+use Rattle.cny_dep.specs.Canonical.{flavor_text}
+use Rattle.cny_dep.specs.Spelling as flavor
 use Rattle.cny_dep.specs.Dep.{Dependency, IsDependency}
 use Rattle.cny_dep.specs.Relaxed as dep
 use Rattle.manifest_troves.specs.trove-parts.declared.id.TroveId.{TroveId}

@@ -14,11 +14,11 @@ use Rattle.manifest_troves.specs.cny-base.Target.{is_target}
 use Rattle.manifest_troves.specs.cny-base.declared.limits.TheConstants.{CONTENT_LIMIT}
 use Rattle.manifest_troves.specs.cny-base.declared.name.NameKind.{NameKind}
 use Rattle.manifest_troves.specs.cny-base.declared.name.NameKind.TheVariants.{Group}
-use Rattle.cny_flavor.specs.declared.parts.Parts.{Parts}
-use Rattle.cny_flavor.specs.Canonical.{no_parts}
-use Rattle.manifest_troves.specs.file-stream.declared.record.Flags.{Flags}
-use Rattle.manifest_troves.specs.file-stream.declared.record.FileRec.TheVariants as rec
-use Rattle.manifest_troves.specs.file-stream.Owner.{OwnerNames, is_owner, root_owner}
+use Rattle.cny_dep.specs.declared.parts.Parts.{Parts}
+use Rattle.cny_dep.specs.Canonical.{no_parts}
+use Rattle.manifest_troves.specs.cny-stream.declared.record.Flags.{Flags}
+use Rattle.manifest_troves.specs.cny-stream.declared.record.FileRec.TheVariants as rec
+use Rattle.manifest_troves.specs.cny-stream.Owner.{OwnerNames, is_owner, root_owner}
 use Rattle.manifest_troves.specs.trove-parts.declared.id.TroveId.{TroveId}
 use Rattle.manifest_troves.specs.trove-parts.Id.{id_text_of}
 use Rattle.manifest_troves.specs.trove-parts.declared.files.FileAt.{FileAt}

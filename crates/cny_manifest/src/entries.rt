@@ -1,12 +1,12 @@
 //! The lines of directories, files and links.
 ghost use Rattle.std.specs.Prelude.{◌≡◌, Some};
-ghost use Rattle.manifest_troves.specs.file-stream.Owner.{root_owner as root};
+ghost use Rattle.manifest_troves.specs.cny-stream.Owner.{root_owner as root};
 ghost use Rattle.cny_manifest.specs.Entries as spec;
 ghost use Rattle.cny_manifest.specs.Reading.{ReadsAs, ReadsBy};
 
 use crate::fields::{cut, field_of, mode_field, place_of, size_field, strip};
 use manifest_troves::cny_base::{Mode, Path, Target, TextFault, text_of};
-use manifest_troves::file_stream::{Flags, Owner};
+use manifest_troves::cny_stream::{Flags, Owner};
 use std::alloc::Global;
 
 /// What a `dir` line says.

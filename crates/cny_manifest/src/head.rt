@@ -5,7 +5,7 @@ ghost use Rattle.cny_manifest.specs.Grammar.{IsVersionField, IsVersionLine, IsFl
 ghost use Rattle.cny_manifest.specs.Reading.{ReadsAs, ReadsOnly};
 
 use crate::fields::{field_of, is_same, strip};
-use cny_flavor::Flavor;
+use cny_dep::Flavor;
 use cny_version::Version;
 use manifest_troves::cny_base::{Name, NameKind, TextFault, text_of};
 use manifest_troves::trove_parts::{TroveId, read_id};

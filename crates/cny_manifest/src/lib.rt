@@ -19,6 +19,6 @@ mod words;
 pub use laws::{one_manifest, spelled};
 pub use made::Made;
 pub use manifest_troves::{
-    Troves, change_set, cny_base, component_of, file_stream, trove_parts, trove_stream,
+    Troves, change_set, cny_base, cny_stream, component_of, trove_parts, trove_stream,
 };
 pub use reading::read;

@@ -22,7 +22,7 @@ use Rattle.tree_disk.specs.Looks.{sees_nothing, sees_dir, size_seen}
 use Rattle.tree_disk.specs.Rows.{look_of, seen_as}
 use Rattle.tree_disk.specs.Tree.{Name, Tree}
 use Rattle.tree_disk.specs.declared.disk.Look.{Look}
-use Rattle.manifest_troves.specs.file-stream.Owner.{OwnerNames}
+use Rattle.manifest_troves.specs.cny-stream.Owner.{OwnerNames}
 use Rattle.manifest_troves.specs.trove-parts.declared.id.TroveId.{TroveId}
 use Rattle.manifest_troves.specs.declared.lines.DepLine.{DepLine}
 use Rattle.cny_pack.specs.Causes.{AreGood, is_there, IsSightIn, AreSightsOf, IsFirstUnfit, HasEntry, IsFirstWithout, IsMeant, IsRefused, IsCause, IfJudged}

@@ -12,7 +12,7 @@ use Rattle.tree_disk.specs.cny-base.Path.{is_path}
 use Rattle.tree_disk.specs.cny-base.declared.limits.TheConstants.{CONTENT_LIMIT}
 use Rattle.tree_disk.specs.declared.disk.Look.{Look}
 use Rattle.tree_disk.specs.declared.disk.Look.TheVariants as look
-use Rattle.manifest_troves.specs.file-stream.Owner.{OwnerNames}
+use Rattle.manifest_troves.specs.cny-stream.Owner.{OwnerNames}
 use Rattle.cny_manifest.specs.Grammar.{IsLine}
 use Rattle.cny_manifest.specs.Lines.{with_feed}
 use Rattle.cny_manifest.specs.Spelling.{Entry, DirEntry, FileEntry, LinkEntry, IsEntry, dir_line, file_line, link_line, target_line}

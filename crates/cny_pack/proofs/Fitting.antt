@@ -20,8 +20,8 @@ use Rattle.tree_disk.proofs.cny-base.Joins.{slash_is, not_zero}
 use Rattle.tree_disk.proofs.cny-base.Numbers.{own}
 use Rattle.tree_disk.proofs.cny-base.Parent.{after_slash}
 use Rattle.tree_disk.proofs.Children.{path_short}
-use Rattle.manifest_troves.specs.file-stream.Owner.{OwnerNames, is_owner_word, is_owner}
-use Rattle.manifest_troves.specs.file-stream.declared.record.Flags.{Flags}
+use Rattle.manifest_troves.specs.cny-stream.Owner.{OwnerNames, is_owner_word, is_owner}
+use Rattle.manifest_troves.specs.cny-stream.declared.record.Flags.{Flags}
 use Rattle.cny_manifest.specs.Grammar.{IsLine}
 use Rattle.cny_manifest.specs.Spelling.{owner_words, word_if, flag_words, dir_line, file_line, link_line, target_line}
 use Rattle.cny_manifest.proofs.Leading.{no_feed, plain_line}

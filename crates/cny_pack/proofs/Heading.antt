@@ -13,7 +13,7 @@ use Rattle.std.proofs.lemmas.List.Elements.{All-nil, All-cons, All-head, All-tai
 use Rattle.std.proofs.lemmas.Map.Views.{All-insert_key}
 use Rattle.cny_dep.specs.Dep.{Dependency, IsDependency, dep_text}
 use Rattle.cny_dep.specs.Order.{dep_cmp}
-use Rattle.cny_dep.proofs.Parts.{one_dep, canonical_relaxed}
+use Rattle.cny_dep.proofs.DepParts.{one_dep, canonical_relaxed}
 use Rattle.std.specs.Str.{IsUtf8, is_utf8}
 use Rattle.std.proofs.lemmas.Str.{is_utf8-from_IsUtf8}
 use Rattle.manifest_troves.proofs.Names.{tied}

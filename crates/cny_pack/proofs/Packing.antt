@@ -17,7 +17,7 @@ use Rattle.tree_disk.specs.declared.disk.Look.TheVariants as look
 use Rattle.manifest_troves.specs.cny-base.Name.{kind_of_name}
 use Rattle.manifest_troves.specs.cny-base.declared.name.NameKind.{NameKind}
 use Rattle.manifest_troves.specs.cny-base.declared.name.NameKind.TheVariants.{Component, Package, Group}
-use Rattle.manifest_troves.specs.file-stream.Owner.{OwnerNames}
+use Rattle.manifest_troves.specs.cny-stream.Owner.{OwnerNames}
 use Rattle.manifest_troves.specs.trove-parts.declared.id.TroveId.{TroveId}
 use Rattle.manifest_troves.specs.trove-parts.Files.{path_of}
 use Rattle.manifest_troves.specs.trove-parts.Id.{IsTroveId}

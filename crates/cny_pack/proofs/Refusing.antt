@@ -4,7 +4,7 @@ use Rattle.std.specs.Prelude.{All, Contains}
 use Rattle.std.proofs.lemmas.List.{get_or_default}
 use Rattle.std.proofs.lemmas.List.Elements.{All-contains, All-weaker, Contains-append_right}
 use Rattle.cny_dep.specs.Dep.{Dependency}
-use Rattle.cny_dep.proofs.Parts.{one_dep}
+use Rattle.cny_dep.proofs.DepParts.{one_dep}
 use Rattle.manifest_troves.specs.declared.lines.DepLine.{DepLine}
 use Rattle.cny_manifest.specs.Spelling.{IsOwnLine}
 use Rattle.cny_pack.specs.Causes.{CanOwn, CanDep, HasBadDep}

@@ -14,8 +14,8 @@ use Rattle.manifest_troves.specs.cny-base.declared.limits.TheConstants.{FILES_LI
 use Rattle.manifest_troves.specs.cny-base.declared.name.NameKind.{NameKind}
 use Rattle.manifest_troves.specs.cny-base.declared.name.NameKind.TheVariants.{Component, Package, Group}
 use Rattle.manifest_troves.specs.Policy.{component_of}
-use Rattle.manifest_troves.specs.file-stream.Owner.{OwnerNames}
-use Rattle.manifest_troves.specs.file-stream.Record.{is_dir}
+use Rattle.manifest_troves.specs.cny-stream.Owner.{OwnerNames}
+use Rattle.manifest_troves.specs.cny-stream.Record.{is_dir}
 use Rattle.manifest_troves.specs.trove-parts.declared.id.TroveId.{TroveId}
 use Rattle.manifest_troves.specs.trove-parts.declared.files.FileAt.{FileAt}
 use Rattle.manifest_troves.specs.trove-parts.Files.{IsFileAt, file_cmp, path_of}
@@ -25,7 +25,7 @@ use Rattle.manifest_troves.specs.declared.lines.DepLine.{DepLine}
 use Rattle.manifest_troves.specs.declared.lines.TroveLines.{TroveLines}
 use Rattle.manifest_troves.specs.Troves.{AreTroves, troves_of, component_names, component_trove, package_of, package_troves, whole_component, entry_component, falls_to, with_names, name_of_line}
 use Rattle.manifest_troves.proofs.Components.{troves_package, troves_component, troves_group}
-use Rattle.manifest_troves.proofs.file-stream.Digests.{digest_long}
+use Rattle.manifest_troves.proofs.cny-stream.Digests.{digest_long}
 use Rattle.cny_manifest.specs.Spelling.{Entry, DirEntry, FileEntry, LinkEntry, file_at, IsEntry}
 use Rattle.cny_pack.specs.Entries.{flags_at, IsEntryFor, IsEntryOfSight}
 use Rattle.cny_pack.specs.Judged.{StandsFor, IsJudged, lines_with}

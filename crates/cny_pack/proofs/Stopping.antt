@@ -1,8 +1,8 @@
 -- Why the work stops, handed on from step to step.
 use Rattle.std.proofs.Common.{◌≡◌, ◌≤◌, ℕ, Bool, false, IsTrue, Result, Ok, Err, refl, sym, subst, arith}
 use Rattle.std.specs.Prelude.{IfErr, IsErrAnd}
-use Rattle.cny_flow.specs.declared.fault.FlowFault.{FlowFault}
-use Rattle.cny_flow.specs.declared.fault.FlowFault.TheVariants as flow
+use Rattle.tree_disk.specs.cny-base.declared.fault.FlowFault.{FlowFault}
+use Rattle.tree_disk.specs.cny-base.declared.fault.FlowFault.TheVariants as flow
 use Rattle.tree_disk.specs.cny-base.Count.{Rose}
 use Rattle.tree_disk.specs.cny-base.declared.text.TextFault.{TextFault}
 use Rattle.tree_disk.specs.cny-base.declared.text.TextFault.TheVariants as fault

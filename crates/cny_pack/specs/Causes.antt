@@ -11,10 +11,10 @@ use Rattle.tree_disk.specs.Looks.{sees_link}
 use Rattle.tree_disk.specs.Rows.{look_of}
 use Rattle.tree_disk.specs.Tree.{Name, Tree, same_name}
 use Rattle.tree_disk.specs.declared.disk.Look.{Look}
-use Rattle.cny_flavor.specs.declared.parts.Parts.{Parts}
+use Rattle.cny_dep.specs.declared.parts.Parts.{Parts}
 use Rattle.cny_version.specs.Version.{WholeVersion}
 use Rattle.manifest_troves.specs.cny-base.Name.{is_name, kind_of_name}
-use Rattle.manifest_troves.specs.file-stream.Owner.{OwnerNames}
+use Rattle.manifest_troves.specs.cny-stream.Owner.{OwnerNames}
 use Rattle.manifest_troves.specs.trove-parts.declared.id.TroveId.{TroveId}
 use Rattle.manifest_troves.specs.declared.lines.DepLine.{DepLine}
 use Rattle.cny_manifest.specs.Body.{is_group_kind}

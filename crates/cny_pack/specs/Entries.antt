@@ -7,8 +7,8 @@ use Rattle.tree_disk.specs.Rows.{bytes_at, is_file_at}
 use Rattle.tree_disk.specs.Tree.{Name, Tree}
 use Rattle.tree_disk.specs.declared.disk.Look.{Look}
 use Rattle.tree_disk.specs.declared.disk.Look.TheVariants as look
-use Rattle.manifest_troves.specs.file-stream.Owner.{OwnerNames, is_owner}
-use Rattle.manifest_troves.specs.file-stream.declared.record.Flags.{Flags}
+use Rattle.manifest_troves.specs.cny-stream.Owner.{OwnerNames, is_owner}
+use Rattle.manifest_troves.specs.cny-stream.declared.record.Flags.{Flags}
 use Rattle.cny_manifest.specs.Lines.{with_feed}
 use Rattle.cny_manifest.specs.Spelling.{Entry, DirEntry, FileEntry, LinkEntry, IsEntry, entry_items, file_line}
 use Rattle.cny_pack.specs.Patterns.{is_any}

@@ -4,8 +4,8 @@ use Rattle.std.specs.Borrow.{Bor}
 use Rattle.manifest_troves.specs.cny-base.Name.{kind_of_name}
 use Rattle.cny_dep.specs.Dep.{Dependency, dep_text}
 use Rattle.cny_version.specs.Version.{WholeVersion}
-use Rattle.cny_flavor.specs.declared.parts.Parts.{Parts}
-use Rattle.cny_flavor.specs.Canonical.{no_parts}
+use Rattle.cny_dep.specs.declared.parts.Parts.{Parts}
+use Rattle.cny_dep.specs.Canonical.{no_parts}
 use Rattle.manifest_troves.specs.trove-parts.declared.id.TroveId.{TroveId}
 use Rattle.manifest_troves.specs.trove-parts.Items.{IsRisingList}
 use Rattle.manifest_troves.specs.declared.lines.DepLine.{DepLine}

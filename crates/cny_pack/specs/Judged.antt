@@ -2,7 +2,7 @@
 use Rattle.std.specs.Prelude.{◌≡◌, List, []}
 use Rattle.std.specs.List.{AllZip}
 use Rattle.tree_disk.specs.Looks.{sees_dir}
-use Rattle.manifest_troves.specs.file-stream.Record.{is_dir}
+use Rattle.manifest_troves.specs.cny-stream.Record.{is_dir}
 use Rattle.manifest_troves.specs.trove-parts.declared.id.TroveId.{TroveId}
 use Rattle.manifest_troves.specs.trove-parts.declared.files.FileAt.{FileAt}
 use Rattle.manifest_troves.specs.declared.lines.DepLine.{DepLine}

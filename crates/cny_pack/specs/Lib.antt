@@ -10,4 +10,4 @@ pub mod Packs
 pub mod Causes
 pub mod Halts
 pub use Rattle.tree_disk.specs as tree-disk
-pub use Rattle.cny_flow.specs as cny-flow
+pub use Rattle.tree_disk.specs.cny-base

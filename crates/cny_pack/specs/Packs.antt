@@ -8,7 +8,7 @@ use Rattle.tree_disk.specs.cny-base.declared.node.Node.{Node}
 use Rattle.tree_disk.specs.cny-base.declared.node.Node.TheVariants as node
 use Rattle.tree_disk.specs.Rows.{look_of}
 use Rattle.tree_disk.specs.Tree.{Name, Tree, same_name}
-use Rattle.manifest_troves.specs.file-stream.Owner.{OwnerNames}
+use Rattle.manifest_troves.specs.cny-stream.Owner.{OwnerNames}
 use Rattle.cny_manifest.specs.Body.{Body}
 use Rattle.cny_manifest.specs.Spelling.{Entry, DirEntry, FileEntry, LinkEntry, file_at, contents_in, IsSpelling}
 use Rattle.cny_pack.specs.Entries.{flags_at}

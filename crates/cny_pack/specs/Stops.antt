@@ -1,6 +1,6 @@
 -- What stops a step makes of what is written above it.
-use Rattle.cny_flow.specs.declared.fault.FlowFault.{FlowFault}
-use Rattle.cny_flow.specs.declared.fault.FlowFault.TheVariants as flow
+use Rattle.tree_disk.specs.cny-base.declared.fault.FlowFault.{FlowFault}
+use Rattle.tree_disk.specs.cny-base.declared.fault.FlowFault.TheVariants as flow
 use Rattle.tree_disk.specs.cny-base.declared.stop.Stop.{Stop}
 use Rattle.tree_disk.specs.cny-base.declared.stop.Stop.TheVariants as stop
 use Rattle.cny_pack.specs.declared.stop.Halt.{Halt}

@@ -9,9 +9,8 @@ ghost use Rattle.cny_pack.specs.Gives.{GivesContent, GivesPiece};
 ghost use Rattle.cny_pack.specs.Halts.{IsHalt, Never, OnlyChanged};
 
 use crate::stop::{Halt, Unfit, halt_of};
-use cny_flow::Sink;
 use std::alloc::Global;
-use tree_disk::cny_base::Path;
+use tree_disk::cny_base::{Path, Sink};
 use tree_disk::{TreeDisk, steps};
 
 // Whether a piece of this length behind so many bytes leaves the file within its size, and is empty only at its end.

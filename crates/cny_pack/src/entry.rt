@@ -18,10 +18,9 @@ use crate::owners::Owners;
 use crate::pattern::{Pattern, is_any};
 use crate::plan::Sight;
 use crate::stop::{Halt, PackStop, Unfit};
-use cny_flow::Sink;
-use manifest_troves::file_stream::{Flags, Owner};
+use manifest_troves::cny_stream::{Flags, Owner};
 use std::alloc::Global;
-use tree_disk::cny_base::{Bytes, Copies, Mode, Path, Target};
+use tree_disk::cny_base::{Bytes, Copies, Mode, Path, Sink, Target};
 use tree_disk::{Look, TreeDisk};
 
 // The owner of what stands at a path.

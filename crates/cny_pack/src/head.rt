@@ -1,8 +1,8 @@
 //! The lines in front of the entries.
 ghost use Rattle.std.specs.Prelude.{◌≡◌, ℕ, ◌∷◌, [], ◌++◌, false, All, Contains, IfErr, IfOk, IsTrue, List, OnOk};
 ghost use Rattle.cny_dep.specs.Dep.{Dependency};
-ghost use Rattle.cny_flavor.specs.Spelling.{IsRelaxedText};
-ghost use Rattle.cny_flavor.specs.declared.parts.Parts.{Parts};
+ghost use Rattle.cny_dep.specs.Spelling.{IsRelaxedText};
+ghost use Rattle.cny_dep.specs.declared.parts.Parts.{Parts};
 ghost use Rattle.cny_version.specs.Version.{WholeVersion};
 ghost use Rattle.manifest_troves.specs.cny-base.Name.{is_name, kind_of_name};
 ghost use Rattle.cny_manifest.specs.Body.{is_own_by, is_group_kind};
@@ -16,8 +16,7 @@ ghost use Rattle.cny_pack.specs.Head.{AddsLine, AddsName, AddsVersion, AddsFlavo
 
 use crate::lines::is_line;
 use crate::stop::{BadWord, PackStop};
-use cny_dep::Dep;
-use cny_flavor::Flavor;
+use cny_dep::{Dep, Flavor};
 use cny_version::Version;
 use manifest_troves::trove_parts::TroveId;
 use manifest_troves::trove_stream::is_component_of;

@@ -14,9 +14,8 @@ mod plan;
 mod stop;
 mod walk;
 
-pub use cny_flow;
 pub use head::{DepWords, Words};
-pub use manifest_troves::file_stream;
+pub use manifest_troves::cny_stream;
 pub use owners::Owners;
 pub use pack::write_manifest;
 pub use pattern::Pattern;

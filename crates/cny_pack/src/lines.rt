@@ -8,10 +8,9 @@ ghost use Rattle.tree_disk.specs.cny-base.Count.{Rose};
 ghost use Rattle.tree_disk.specs.cny-base.Number.{octal_text};
 
 use crate::stop::Halt;
-use cny_flow::Sink;
-use manifest_troves::file_stream::{Flags, Owner};
+use manifest_troves::cny_stream::{Flags, Owner};
 use std::alloc::Global;
-use tree_disk::cny_base::{Bytes, Mode, OutOfMemory, Path, Target, decimal, octal};
+use tree_disk::cny_base::{Bytes, Mode, OutOfMemory, Path, Sink, Target, decimal, octal};
 
 // As many bytes as no line has.
 const LINE_ROOM: usize = 2049;

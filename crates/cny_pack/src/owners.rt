@@ -1,12 +1,12 @@
 //! Who owns what stands in a directory.
-use manifest_troves::file_stream::Owner;
+use manifest_troves::cny_stream::Owner;
 use std::alloc::Global;
 use tree_disk::cny_base::{OutOfMemory, Path};
 
 /// Who owns what stands in a directory. A disk doesn't tell it.
 pub trait Owners {
     ghost use Rattle.std.specs.Prelude.{ℕ, List, IfOk, MatchOption};
-    ghost use Rattle.manifest_troves.specs.file-stream.Owner.{OwnerNames};
+    ghost use Rattle.manifest_troves.specs.cny-stream.Owner.{OwnerNames};
 
     /// Which owners it may tell of a path.
     ghost owns: { List ℕ → OwnerNames → Type 0 };

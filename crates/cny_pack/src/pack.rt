@@ -17,9 +17,8 @@ use crate::pattern::Pattern;
 use crate::plan::{Rules, Sight, plan};
 use crate::stop::{PackStop, stop_of};
 use crate::walk::{Seen, find_all};
-use cny_flow::{FlowFault, Sink};
 use std::alloc::Global;
-use tree_disk::cny_base::Bytes;
+use tree_disk::cny_base::{Bytes, FlowFault, Sink};
 use tree_disk::{PIECE, TreeDisk};
 
 fn give<S: Sink>(out: &mut S, bytes: &[u8]) -> Result<(), PackStop>

@@ -5,9 +5,8 @@ ghost use Rattle.cny_pack.specs.declared.stop.PackStop.TheVariants as pack;
 ghost use Rattle.cny_pack.specs.Stops as spec;
 ghost use Rattle.tree_disk.specs.Steps.{IsDiskStop};
 
-use cny_flow::FlowFault;
 use std::alloc::{AllocError, AllocFailed};
-use tree_disk::cny_base::{OutOfMemory, Path, Stop};
+use tree_disk::cny_base::{FlowFault, OutOfMemory, Path, Stop};
 
 /// Which of the words isn't in its grammar, or can't stand in a line.
 #[derive(Clone, Copy)]

@@ -5,5 +5,5 @@ pub mod Refusals
 pub mod Troves
 pub mod Verified
 pub use Rattle.update_job.specs.change-set
-pub use Rattle.update_job.specs.file-stream
+pub use Rattle.update_job.specs.cny-stream
 pub use Rattle.update_job.specs.trove-parts

@@ -5,10 +5,10 @@ use Rattle.std.specs.List.{flat_map}
 use Rattle.hex.specs.Hex.{encode_lower}
 use Rattle.update_job.specs.cny-base.Number.{octal_text}
 use Rattle.cny_dep.specs.Dep.{Dependency, dep_text}
-use Rattle.update_job.specs.file-stream.Owner.{OwnerNames, is_root}
-use Rattle.update_job.specs.file-stream.declared.record.FileRec.{FileRec}
-use Rattle.update_job.specs.file-stream.declared.record.FileRec.TheVariants.{Dir, File, Link}
-use Rattle.update_job.specs.file-stream.declared.record.Flags.{Flags}
+use Rattle.update_job.specs.cny-stream.Owner.{OwnerNames, is_root}
+use Rattle.update_job.specs.cny-stream.declared.record.FileRec.{FileRec}
+use Rattle.update_job.specs.cny-stream.declared.record.FileRec.TheVariants.{Dir, File, Link}
+use Rattle.update_job.specs.cny-stream.declared.record.Flags.{Flags}
 use Rattle.update_job.specs.trove-parts.declared.files.FileAt.{FileAt}
 use Rattle.update_job.specs.trove-stream.declared.parts.TroveParts.{TroveParts}
 use Rattle.cny_report.specs.Troves.{id_line, told_id}

@@ -18,5 +18,5 @@ pub use note::{Note, Notes};
 pub use records::trove_text;
 pub use refusals::refusal_text;
 pub use troves::{committed_text, named_text, troves_text};
-pub use update_job::{change_set, cny_base, file_stream, trove_parts, trove_stream};
+pub use update_job::{change_set, cny_base, cny_stream, trove_parts, trove_stream};
 pub use verified::verified_text;

@@ -10,7 +10,7 @@ use cny_dep::Dep;
 use std::alloc::{AllocError, Global};
 use std::fmt::Write;
 use update_job::cny_base::{Mode, OutOfMemory, Text, octal};
-use update_job::file_stream::{FileRec, Flags, Owner};
+use update_job::cny_stream::{FileRec, Flags, Owner};
 use update_job::trove_parts::FileAt;
 use update_job::trove_stream::Trove;
 

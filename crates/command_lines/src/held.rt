@@ -2,7 +2,7 @@
 use line_words::Answer;
 use repo_index::Catalogue;
 use repo_load::{base_path, content, load};
-use repository::file_stream::FileRec;
+use repository::cny_stream::FileRec;
 use repository::trove_parts::FileAt;
 use root_words::Quiet;
 use std::alloc::Global;

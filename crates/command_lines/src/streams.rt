@@ -1,7 +1,8 @@
 //! The standard streams of a call, and the call.
 use crate::disks::{Disks, push_kept};
-use cny_flow::cny_base::{Bytes, Copies, Fails};
-use cny_flow::{FlowFault, MemorySink, MemorySource, Source};
+use line_words::cny_report::cny_base::{
+    Bytes, Copies, Fails, FlowFault, MemorySink, MemorySource, Source,
+};
 use line_words::{Answer, Line, Stop};
 use outcome_laws::conary_cli::cny_batch::{self, Words};
 use outcome_laws::conary_cli::{run, run_line};

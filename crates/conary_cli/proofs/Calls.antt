@@ -1,6 +1,6 @@
 -- A call of a command, from its steps.
 use Rattle.std.proofs.Common.{◌≡◌, ℕ, ◌≤◌, Bool, List, Result, Ok, Err, refl, sym, subst, inl, inr, ⊎_elim, arith}
-use Rattle.cny_flow.specs.Flow.{SourceState, SinkState}
+use Rattle.cny_version.specs.cny-base.Flow.{SourceState, SinkState}
 use Rattle.root_commands.specs.cli-call.tree-disk.Disk.{DiskModel, IsDisk}
 use Rattle.root_commands.specs.cli-call.cny-laws.declared.failure.Failure.{Failure}
 use Rattle.root_commands.specs.cli-call.cny-laws.declared.failure.Failure.TheVariants as failure

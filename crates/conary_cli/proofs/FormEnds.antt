@@ -6,7 +6,7 @@ use Rattle.root_commands.specs.cli-call.cny-base.declared.options.Options.{Optio
 use Rattle.root_commands.specs.cli-call.cny-base.declared.refusal.Refusal.{Refusal}
 use Rattle.root_commands.specs.cli-call.cny-base.declared.refusal.Refusal.TheVariants as refusal
 use Rattle.root_commands.specs.cli-call.cny-base.declared.refusal.What.TheVariants.{Input}
-use Rattle.cny_flow.specs.Flow.{SinkState}
+use Rattle.cny_version.specs.cny-base.Flow.{SinkState}
 use Rattle.cny_manifest.specs.declared.made.Made.{Made}
 use Rattle.cny_manifest.specs.FirstFault as manifest_fault
 use Rattle.cny_manifest.specs.Makes.{Makes}

@@ -4,7 +4,7 @@ use Rattle.std.specs.Prelude.{IsTrue, OnOk}
 use lib.Seq.{drop-cons}
 use Rattle.root_commands.specs.cli-call.tree-disk.Disk.{DiskModel}
 use Rattle.cny_batch.specs.declared.line.Line.{Line}
-use Rattle.cny_flow.specs.Flow.{SourceState, SinkState}
+use Rattle.cny_version.specs.cny-base.Flow.{SourceState, SinkState}
 use Rattle.root_commands.specs.cli-call.Command.{AreReady, Disks}
 use Rattle.root_commands.specs.cli-call.cny-laws.Call.{CallState}
 use Rattle.root_commands.specs.cli-call.Line.{Moment, RunsLine}

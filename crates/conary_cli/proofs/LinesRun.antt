@@ -1,7 +1,7 @@
 -- What follows of lines that were run: from a state that both disks stored, and whatever they store.
 use Rattle.std.proofs.Common.{◌≡◌, ◌≤◌, ℕ, Bool, true, false, List, [], ◌∷◌, Result, Ok, Err, refl, sym, ap, ◌∙◌, subst, inl, inr, arith}
 use Rattle.std.specs.Prelude.{IsTrue}
-use Rattle.cny_flow.specs.Flow.{SinkState}
+use Rattle.cny_version.specs.cny-base.Flow.{SinkState}
 use Rattle.root_commands.specs.cli-call.cny-base.Count.{Rose}
 use Rattle.root_commands.specs.cli-call.cny-base.declared.refusal.Refusal.{Refusal}
 use Rattle.root_commands.specs.cli-call.tree-disk.Disk.{DiskModel, IsDisk, HasRead}

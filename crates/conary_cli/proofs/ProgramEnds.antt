@@ -1,6 +1,6 @@
 -- A call of the program, from its steps.
 use Rattle.std.proofs.Common.{◌≤◌, ℕ, true, false, List, Result, Ok, Err, subst, inl, inr, ⊎_elim}
-use Rattle.cny_flow.specs.Flow.{SinkState}
+use Rattle.cny_version.specs.cny-base.Flow.{SinkState}
 use Rattle.root_commands.specs.cli-call.tree-disk.Disk.{DiskModel, IsDisk}
 use Rattle.root_commands.specs.cli-call.cny-laws.declared.failure.Failure.{Failure}
 use Rattle.root_commands.specs.cli-call.cny-laws.declared.failure.Failure.TheVariants as failure

@@ -1,7 +1,7 @@
 -- No damaged record is passed over by a whole call.
 use Rattle.std.proofs.Common.{◌≡◌, ℕ, Bool, false, List, Result, Ok, Err, refl, sym, subst, arith}
 use Rattle.root_commands.specs.cli-call.cny-base.declared.refusal.Refusal.{Refusal}
-use Rattle.cny_flow.specs.Flow.{SourceState, SinkState}
+use Rattle.cny_version.specs.cny-base.Flow.{SourceState, SinkState}
 use Rattle.root_commands.specs.cli-call.local-db.declared.db.Db.{Db}
 use Rattle.root_commands.specs.cli-call.tree-disk.Disk.{DiskModel}
 use Rattle.root_commands.specs.cli-call.tree-disk.Tree.{Tree}

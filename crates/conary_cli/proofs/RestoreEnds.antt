@@ -3,7 +3,7 @@ use Rattle.std.proofs.Common.{◌≡◌, ◌≤◌, refl, arith, inl, inr, ⊎_e
 use Rattle.std.specs.FinMap.{get}
 use Rattle.root_commands.specs.cli-call.cny-base.declared.refusal.Refusal.{Refusal}
 use Rattle.root_commands.specs.cli-call.cny-base.declared.refusal.Refusal.TheVariants.{Edited, NoJob, Parent, StackEmpty}
-use Rattle.cny_flow.specs.Flow.{SinkState}
+use Rattle.cny_version.specs.cny-base.Flow.{SinkState}
 use Rattle.root_commands.specs.cli-call.tree-disk.Tree.{Tree}
 use Rattle.root_commands.specs.cli-call.tree-disk.Disk.{DiskModel}
 use Rattle.root_commands.specs.cli-call.local-db.SystemState.{IsStackItem, IsSystemState, StackItem, SystemState, newest}

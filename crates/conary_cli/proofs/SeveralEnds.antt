@@ -1,7 +1,7 @@
 -- A call of several lines, from its steps.
 use Rattle.std.proofs.Common.{◌≡◌, ℕ, Bool, false, List, [], Ok, Err, refl, sym, subst, inl, inr, ⊎_elim, arith}
 use Rattle.std.specs.Prelude.{◌⊎◌}
-use Rattle.cny_flow.specs.Flow.{SourceState, SinkState}
+use Rattle.cny_version.specs.cny-base.Flow.{SourceState, SinkState}
 use Rattle.root_commands.specs.cli-call.tree-disk.Disk.{DiskModel, IsDisk}
 use Rattle.root_commands.proofs.cli-call.tree-disk.Moments.{rose_before}
 use Rattle.root_commands.specs.cli-call.Alone.{AnswersByLists, PerformsAlone, PerformsWithin}

@@ -1,6 +1,6 @@
 -- A command of which nothing is written: it keeps its clauses by a meaning that answers no bytes.
 use Rattle.std.proofs.Common.{ℕ, List, [], Result, Ok, Err, refl, inl, inr, arith}
-use Rattle.cny_flow.specs.Flow.{SinkState}
+use Rattle.cny_version.specs.cny-base.Flow.{SinkState}
 use Rattle.root_commands.specs.cli-call.tree-disk.Tree.{Tree}
 use Rattle.root_commands.specs.cli-call.tree-disk.Disk.{DiskModel}
 use Rattle.root_commands.proofs.cli-call.tree-disk.Unfailed.{unfailed_weaker}

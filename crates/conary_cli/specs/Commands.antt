@@ -1,7 +1,7 @@
 -- The table of commands: what each means.
 use Rattle.std.specs.Prelude.{◌≡◌, ◌⊎◌, ℕ, Bool, true, false, not, IsTrue, List, Result, Ok, Err}
 use Rattle.root_commands.specs.cli-call.cny-base.declared.options.Options.{Options}
-use Rattle.cny_flow.specs.Flow.{SinkState}
+use Rattle.cny_version.specs.cny-base.Flow.{SinkState}
 use Rattle.root_commands.specs.cli-call.tree-disk.Disk.{DiskModel}
 use Rattle.root_commands.specs.cli-call.cny-laws.declared.failure.Failure.{Failure}
 use Rattle.root_commands.specs.cli-call.cny-laws.declared.failure.Failure.TheVariants as failure

@@ -1,6 +1,6 @@
 -- What a call of the program promises, by what its words call; and a line by itself.
 use Rattle.std.specs.Prelude.{◌≡◌, ◌⊎◌, ℕ, true, false, List, Some, Result, Ok, Err}
-use Rattle.cny_flow.specs.Flow.{SourceState, SinkState}
+use Rattle.cny_version.specs.cny-base.Flow.{SourceState, SinkState}
 use Rattle.root_commands.specs.cli-call.tree-disk.Disk.{DiskModel}
 use Rattle.cny_batch.specs.declared.line.Line.{Line}
 use Rattle.root_commands.specs.cli-call.Runs.{RunsCall}

@@ -1,6 +1,6 @@
 -- A call of several lines by its steps: the disks are opened, the lines are made, and they are run.
 use Rattle.std.specs.Prelude.{◌⊎◌, ℕ, Bool, true, List, Result, Ok, Err}
-use Rattle.cny_flow.specs.Flow.{SourceState}
+use Rattle.cny_version.specs.cny-base.Flow.{SourceState}
 use Rattle.root_commands.specs.cli-call.tree-disk.Disk.{DiskModel}
 use Rattle.cny_batch.specs.declared.line.Line.{Line}
 use Rattle.root_commands.specs.cli-call.Command.{disks}

@@ -1,6 +1,6 @@
 -- What a call of several lines promises: a batch, or the demo.
 use Rattle.std.specs.Prelude.{◌≡◌, ◌⊎◌, ℕ, ◌≤◌, Bool, true, false, IsTrue, List, Result, Ok, Err}
-use Rattle.cny_flow.specs.Flow.{SinkState}
+use Rattle.cny_version.specs.cny-base.Flow.{SinkState}
 use Rattle.root_commands.specs.cli-call.cny-base.Count.{Rose}
 use Rattle.root_commands.specs.cli-call.cny-base.declared.refusal.Refusal.{Refusal}
 use Rattle.root_commands.specs.cli-call.cny-base.declared.refusal.Refusal.TheVariants.{Malformed}

@@ -4,7 +4,7 @@
 ghost use Rattle.std.specs.Prelude.{◌≡◌, ◌≤◌, IfOk, IfErr};
 
 use crate::program::run;
-use cny_flow::{StdSink, StdSource};
+use cny_version::cny_base::{StdSink, StdSource};
 use root_commands::cli_call::cny_base::{Fails, Mode, Node, OutOfMemory, Path, Text};
 use root_commands::cli_call::tree_disk::TreeDisk;
 use std::alloc::Global;

@@ -1,6 +1,6 @@
 //! What follows of the promise of a call.
 ghost use Rattle.std.specs.Prelude.{◌≤◌, List, ℕ};
-ghost use Rattle.cny_flow.specs.Flow.{SinkState};
+ghost use Rattle.cny_version.specs.cny-base.Flow.{SinkState};
 ghost use Rattle.root_commands.specs.cli-call.cny-laws.Call.{CallState};
 ghost use Rattle.cli_words.specs.declared.words.Command.{Command};
 ghost use Rattle.conary_cli.specs.Commands.{IsCommandCall, IsSomeCall};

@@ -1,6 +1,6 @@
 //! A line by itself.
 ghost use Rattle.std.specs.Prelude.{List, Ok, Result, ℕ};
-ghost use Rattle.cny_flow.specs.Flow.{sink_state};
+ghost use Rattle.cny_version.specs.cny-base.Flow.{sink_state};
 ghost use Rattle.root_commands.specs.cli-call.cny-laws.declared.failure.Failure.{Failure};
 ghost use Rattle.cli_words.specs.declared.words.Command.{Command};
 ghost use Rattle.conary_cli.specs.Commands.{RunsWords};
@@ -10,7 +10,7 @@ ghost use Rattle.cli_words.specs.Words.{AreWords};
 use crate::lines::run_given;
 use cli_words::{Command, read_words};
 use cny_batch::Line;
-use cny_flow::Sink;
+use cny_version::cny_base::Sink;
 use root_commands::cli_call::tree_disk::TreeDisk;
 use root_commands::cli_call::{Failure, open_disks, report, store_laws};
 use std::alloc::Global;

@@ -1,6 +1,6 @@
 //! Lines over two disks that are open, one after the other.
 ghost use Rattle.std.specs.Prelude.{◌≤◌, true, false, Ok, Err, IfOk, IfErr};
-ghost use Rattle.cny_flow.specs.Flow.{SinkState};
+ghost use Rattle.cny_version.specs.cny-base.Flow.{SinkState};
 ghost use Rattle.root_commands.specs.cli-call.Command.{disks, AreReady};
 ghost use Rattle.root_commands.specs.cli-call.Line.{moment};
 ghost use Rattle.cny_batch.specs.Demo as demo;
@@ -11,7 +11,7 @@ use crate::commands::{perform, takes_input};
 use crate::program::run_command;
 use cli_words::{Command, read_words};
 use cny_batch::{Line, line_count, line_of};
-use cny_flow::Sink;
+use cny_version::cny_base::Sink;
 use root_commands::cli_call::cny_base::{INPUT_LIMIT, Refusal, What};
 use root_commands::cli_call::tree_disk::TreeDisk;
 use root_commands::cli_call::{Failure, Opened};

@@ -2,7 +2,7 @@
 ghost use Rattle.std.specs.Prelude.{string_bytes, map, IsTrue, OnOk, Result};
 ghost use Rattle.root_commands.specs.cli-call.cny-laws.declared.failure.Failure.{Failure};
 ghost use Rattle.cli_words.specs.declared.call_words.Call.{Call};
-ghost use Rattle.cny_flow.specs.Flow.{sink_state, source_state};
+ghost use Rattle.cny_version.specs.cny-base.Flow.{sink_state, source_state};
 ghost use Rattle.root_commands.specs.cli-call.cny-laws.Call.{call_state};
 ghost use Rattle.root_commands.specs.cli-call.Runs.{RunsCall, RunsOpen};
 ghost use Rattle.root_commands.specs.cli-call.Command.{disks, AreReady};
@@ -15,7 +15,7 @@ ghost use Rattle.conary_cli.specs.Records.{EndsOpened, EndsWhole};
 use crate::commands::{perform, takes_input};
 use crate::several::{run_batch, run_demo};
 use cli_words::{Call, Command, read_call};
-use cny_flow::{Sink, Source};
+use cny_version::cny_base::{Sink, Source};
 use root_commands::cli_call::tree_disk::TreeDisk;
 use root_commands::cli_call::{
     Failure, Opened, open_disks, read_given, report, store_laws, write_answer,

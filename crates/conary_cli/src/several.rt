@@ -1,13 +1,13 @@
 //! Calls of several lines: a batch, and the demo. The disks are opened once, before the input is read.
 ghost use Rattle.std.specs.Prelude.{◌≤◌, true, false};
-ghost use Rattle.cny_flow.specs.Flow.{SourceState, sink_state, source_state};
+ghost use Rattle.cny_version.specs.cny-base.Flow.{SourceState, sink_state, source_state};
 ghost use Rattle.root_commands.specs.cli-call.cny-laws.Call.{call_state};
 ghost use Rattle.conary_cli.specs.RunsSeveral.{ReadsBatch, RunsSeveral};
 ghost use Rattle.conary_cli.specs.Several.{AreBatchLines, AreDemoLines};
 
 use crate::lines::{run_demo_lines, run_lines};
 use cny_batch::{Lines, read_batch};
-use cny_flow::{Sink, Source};
+use cny_version::cny_base::{Sink, Source};
 use root_commands::cli_call::tree_disk::TreeDisk;
 use root_commands::cli_call::{Failure, open_disks, read_given, store_laws};
 use std::alloc::Global;

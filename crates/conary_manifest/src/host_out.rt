@@ -1,8 +1,8 @@
 // Standard output, written to in large pieces.
 ghost use Rattle.std.specs.Prelude.{None};
-ghost use Rattle.cny_pack.specs.cny-flow.Flow.{HasCause};
+ghost use Rattle.cny_pack.specs.cny-base.Flow.{HasCause};
 
-use cny_pack::cny_flow::{FlowFault, Sink, StdSink};
+use cny_pack::cny_base::{FlowFault, Sink, StdSink};
 use std::alloc::Global;
 use std::io::Write;
 use std::marker::Model;

@@ -1,7 +1,7 @@
 // Who owns what stands in a directory of the host.
 use cny_pack::Owners;
 use cny_pack::cny_base::{OutOfMemory, Path, TextFault, is_word};
-use cny_pack::file_stream::Owner;
+use cny_pack::cny_stream::Owner;
 use std::alloc::Global;
 use std::collections::BTreeMap;
 use std::fs::{self, Files, Metadata};

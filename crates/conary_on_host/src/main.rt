@@ -7,11 +7,22 @@
 //! failed call.
 #![tactic(auto)]
 
+mod calls;
+mod counts;
+mod look;
+mod pair;
+mod record;
+mod recorded;
+mod standing;
+mod told;
 mod trials;
+mod watched;
 
+use crate::calls::tell_calls;
+use crate::look::tell_root;
+use crate::told::Told;
 use crate::trials::{Command, try_command, words_of};
 use conary_cli::start;
-use host_words::{Told, tell_calls, tell_root};
 use std::fs;
 use std::io::{self, Write};
 use std::process::ExitCode;

@@ -1,12 +1,14 @@
 //! Runs a command over directories of the host with each call of their files failing once, and says what the next command finds.
-use cny_flow::cny_base::{Bytes, Fails, OutOfMemory, Text};
-use cny_flow::{MemorySink, MemorySource};
+use crate::counts::{Counts, States};
+use crate::pair::{Pair, Side};
+use crate::recorded::Recorded;
+use crate::standing::{Standing, agrees, copy_all, standing_in};
+use crate::told::Told;
+use crate::watched::Watched;
 use conary_cli::run;
-use host_words::{
-    Counts, Pair, Recorded, Side, States, Told, Watched, agrees, copy_all, standing_in,
-};
 use std::fs;
 use std::io::{self, Error, ErrorKind};
+use tree_disk::cny_base::{Bytes, Fails, MemorySink, MemorySource, OutOfMemory, Text};
 
 // No command makes more calls.
 const MOST_CALLS: u64 = 100_000;

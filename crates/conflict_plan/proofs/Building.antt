@@ -7,7 +7,7 @@ use Rattle.trove_stream.specs.cny-base.Path.{is_path, root}
 use Rattle.trove_stream.specs.cny-base.Reserved.{is_pinned}
 use Rattle.trove_stream.specs.cny-base.declared.options.Options.{Options}
 use Rattle.trove_stream.specs.cny-base.declared.refusal.Refusal.{Refusal}
-use Rattle.trove_stream.specs.file-stream.declared.record.FileRec.{FileRec}
+use Rattle.trove_stream.specs.cny-stream.declared.record.FileRec.{FileRec}
 use Rattle.tree_scan.specs.tree-disk.Laws.{same_means}
 use Rattle.tree_scan.proofs.tree-disk.Laws.{same_itself}
 use Rattle.tree_scan.specs.tree-disk.Tree.{Name, Tree, same_name}

@@ -9,8 +9,8 @@ use Rattle.std.specs.Cmp.Lexicographic.{slice_cmp}
 use Rattle.trove_stream.specs.cny-base.Path.{is_path, join, last_name, parent, root}
 use Rattle.trove_stream.specs.cny-base.declared.node.Node.{Node}
 use Rattle.trove_stream.specs.cny-base.declared.node.Node.TheVariants as node
-use Rattle.trove_stream.specs.file-stream.declared.record.FileRec.{FileRec}
-use Rattle.trove_stream.specs.file-stream.declared.record.FileRec.TheVariants as rec
+use Rattle.trove_stream.specs.cny-stream.declared.record.FileRec.{FileRec}
+use Rattle.trove_stream.specs.cny-stream.declared.record.FileRec.TheVariants as rec
 use Rattle.tree_scan.specs.tree-disk.Laws.{same_means}
 use Rattle.tree_scan.proofs.tree-disk.Laws.{same_itself, second as and_second}
 use Rattle.tree_scan.specs.tree-disk.Rows.{is_dir_at}

@@ -164,7 +164,7 @@ module _ (old fresh : List TroveParts) (all : List At) (entries : AreEntries old
         target = at is.target (ap (λ (e : Entry). e.fresh) entry ∙ ap (record_at fresh) (sym is.path));
       }
     where
-      at : {w : Option Rattle.trove_stream.specs.file-stream.declared.record.FileRec.FileRec} → (x.want ≡ None) ⊎ (x.want ≡ w) → w ≡ record_at fresh x.path → (x.want ≡ None) ⊎ (x.want ≡ record_at fresh x.path)
+      at : {w : Option Rattle.trove_stream.specs.cny-stream.declared.record.FileRec.FileRec} → (x.want ≡ None) ⊎ (x.want ≡ w) → w ≡ record_at fresh x.path → (x.want ≡ None) ⊎ (x.want ≡ record_at fresh x.path)
       at (inl none) same = inl none
       at (inr is) same = inr (is ∙ same)
 

@@ -8,8 +8,8 @@ use Rattle.trove_stream.proofs.cny-base.Joins.{join_parent}
 use Rattle.trove_stream.specs.cny-base.Path.{is_path, join, last_name, root}
 use Rattle.trove_stream.specs.cny-base.declared.node.Node.{Node}
 use Rattle.trove_stream.specs.cny-base.declared.node.Node.TheVariants as node
-use Rattle.trove_stream.specs.file-stream.declared.record.FileRec.{FileRec}
-use Rattle.trove_stream.specs.file-stream.declared.record.FileRec.TheVariants as rec
+use Rattle.trove_stream.specs.cny-stream.declared.record.FileRec.{FileRec}
+use Rattle.trove_stream.specs.cny-stream.declared.record.FileRec.TheVariants as rec
 use Rattle.tree_scan.specs.tree-disk.Laws.{same_means}
 use Rattle.tree_scan.proofs.tree-disk.Laws.{same_itself, second as and_second}
 use Rattle.tree_scan.specs.tree-disk.Tree.{Name, Tree, WellFormed, children, is_child, same_name}

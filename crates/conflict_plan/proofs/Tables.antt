@@ -3,8 +3,8 @@ use Rattle.std.proofs.Common.{◌≡◌, Bool, true, false, cond, ◌&&◌, ◌|
 use Rattle.trove_stream.specs.cny-base.Reserved.{is_pinned}
 use Rattle.trove_stream.specs.cny-base.declared.options.Options.{Options}
 use Rattle.trove_stream.specs.cny-base.declared.refusal.Refusal.{Refusal}
-use Rattle.trove_stream.specs.file-stream.declared.record.FileRec.{FileRec}
-use Rattle.trove_stream.specs.file-stream.Record.{is_dir, flags_of}
+use Rattle.trove_stream.specs.cny-stream.declared.record.FileRec.{FileRec}
+use Rattle.trove_stream.specs.cny-stream.Record.{is_dir, flags_of}
 use Rattle.tree_scan.specs.tree-disk.Tree.{Name, Tree}
 use Rattle.tree_scan.specs.declared.mark.Mark.{Mark}
 use Rattle.tree_scan.specs.declared.mark.Mark.TheVariants as mark

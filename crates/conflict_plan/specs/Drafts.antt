@@ -6,8 +6,8 @@ use Rattle.trove_stream.specs.cny-base.declared.refusal.Refusal.{Refusal}
 use Rattle.trove_stream.specs.cny-base.declared.refusal.Refusal.TheVariants as refusal
 use Rattle.trove_stream.specs.cny-base.declared.stop.Stop.{Stop}
 use Rattle.trove_stream.specs.cny-base.declared.stop.Stop.TheVariants.{Refused, Memory, Failed, Damaged, FarFailed, FarDamaged}
-use Rattle.trove_stream.specs.file-stream.declared.record.FileRec.{FileRec}
-use Rattle.trove_stream.specs.file-stream.Record.{is_dir}
+use Rattle.trove_stream.specs.cny-stream.declared.record.FileRec.{FileRec}
+use Rattle.trove_stream.specs.cny-stream.Record.{is_dir}
 use Rattle.tree_scan.specs.tree-disk.Tree.{Tree}
 use Rattle.tree_scan.specs.declared.mark.Mark.{Mark}
 use Rattle.tree_scan.specs.Marks as marks

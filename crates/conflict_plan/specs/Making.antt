@@ -6,8 +6,8 @@ use Rattle.std.specs.Cmp.Lexicographic.{slice_cmp}
 use Rattle.std.specs.List.{list_any}
 use Rattle.std.specs.Ordering.{nat_cmp}
 use Rattle.trove_stream.specs.cny-base.Path.{join}
-use Rattle.trove_stream.specs.file-stream.declared.record.FileRec.{FileRec}
-use Rattle.trove_stream.specs.file-stream.declared.record.FileRec.TheVariants as rec
+use Rattle.trove_stream.specs.cny-stream.declared.record.FileRec.{FileRec}
+use Rattle.trove_stream.specs.cny-stream.declared.record.FileRec.TheVariants as rec
 use Rattle.tree_scan.specs.tree-disk.Tree.{Name, Tree, children, is_child, same_name}
 use Rattle.conflict_plan.specs.declared.making.Fate.{Fate}
 use Rattle.conflict_plan.specs.declared.making.Fate.TheVariants.{Gone, Dir, Other}

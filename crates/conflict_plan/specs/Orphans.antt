@@ -3,8 +3,8 @@ use Rattle.std.specs.Prelude.{◌≡◌, ℕ, Bool, true, false, not, ◌&&◌, 
 use Rattle.std.specs.Cmp.Lexicographic.{slice_cmp}
 use Rattle.std.specs.Ordering.{nat_cmp, is_lt}
 use Rattle.trove_stream.specs.cny-base.Path.{join, parent, root}
-use Rattle.trove_stream.specs.file-stream.declared.record.FileRec.{FileRec}
-use Rattle.trove_stream.specs.file-stream.Record as records
+use Rattle.trove_stream.specs.cny-stream.declared.record.FileRec.{FileRec}
+use Rattle.trove_stream.specs.cny-stream.Record as records
 use Rattle.tree_scan.specs.tree-disk.Rows.{is_dir_at}
 use Rattle.tree_scan.specs.tree-disk.Tree.{Name, Tree, children, same_name}
 use Rattle.tree_scan.specs.Marks.{fingerprint_at, is_dir}

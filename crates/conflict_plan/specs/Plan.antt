@@ -12,7 +12,7 @@ use Rattle.trove_stream.specs.cny-base.declared.refusal.Refusal.{Refusal}
 use Rattle.trove_stream.specs.cny-base.declared.refusal.Refusal.TheVariants as refusal
 use Rattle.trove_stream.specs.cny-base.declared.stop.Stop.{Stop}
 use Rattle.trove_stream.specs.cny-base.declared.stop.Stop.TheVariants.{Refused, Memory, Failed, Damaged, FarFailed, FarDamaged}
-use Rattle.trove_stream.specs.file-stream.declared.record.FileRec.{FileRec}
+use Rattle.trove_stream.specs.cny-stream.declared.record.FileRec.{FileRec}
 use Rattle.trove_stream.specs.declared.parts.TroveParts.{TroveParts}
 use Rattle.tree_scan.specs.tree-disk.Tree.{Name, Tree, is_child, same_name}
 use Rattle.tree_scan.specs.declared.mark.Mark.{Mark}

@@ -1,7 +1,7 @@
 -- What two lists of troves record of a path, claim by claim.
 use Rattle.std.specs.Prelude.{ℕ, ◌&&◌, ◌||◌, if◌then◌else◌, List, [], ◌∷◌, Option, Some, None, is_some}
-use Rattle.trove_stream.specs.file-stream.declared.record.FileRec.{FileRec}
-use Rattle.trove_stream.specs.file-stream.Record.{is_dir}
+use Rattle.trove_stream.specs.cny-stream.declared.record.FileRec.{FileRec}
+use Rattle.trove_stream.specs.cny-stream.Record.{is_dir}
 use Rattle.conflict_plan.specs.declared.records.Shared.{Shared}
 use Rattle.conflict_plan.specs.declared.records.Recorded.{Recorded}
 use Rattle.conflict_plan.specs.declared.records.Side.{Side}

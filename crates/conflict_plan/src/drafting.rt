@@ -13,7 +13,7 @@ use std::alloc::Global;
 use tree_scan::tree_disk::TreeDisk;
 use tree_scan::{Mark, are_same_marks, mark_at};
 use trove_stream::cny_base::{Options, OutOfMemory, Path, Refusal, Stop, Text};
-use trove_stream::file_stream::FileRec;
+use trove_stream::cny_stream::FileRec;
 
 /// A path that may change.
 #[derive(Drop)]

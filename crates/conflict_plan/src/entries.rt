@@ -12,7 +12,7 @@ ghost use Rattle.conflict_plan.specs.Records.{record_of, second_of};
 use crate::records::{Recorded, Records, Shared};
 use std::alloc::Global;
 use trove_stream::cny_base::{Fault, Name, OutOfMemory, Path, Refusal, Text};
-use trove_stream::file_stream::FileRec;
+use trove_stream::cny_stream::FileRec;
 
 /// A path, with what both lists record of it.
 pub struct Entry {

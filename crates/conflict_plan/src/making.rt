@@ -13,7 +13,7 @@ use std::alloc::Global;
 use std::collections::{BTreeMap, BTreeSet};
 use std::marker::Model;
 use trove_stream::cny_base::{Copies, OutOfMemory, Path};
-use trove_stream::file_stream::FileRec;
+use trove_stream::cny_stream::FileRec;
 
 /// What becomes of a planned path.
 #[derive(Clone, Copy)]

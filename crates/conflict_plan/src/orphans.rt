@@ -14,7 +14,7 @@ use crate::settling::{child_of, is_gone};
 use std::alloc::Global;
 use tree_scan::tree_disk::{TreeDisk, steps};
 use trove_stream::cny_base::{Copies, OutOfMemory, Path, Stop, Text};
-use trove_stream::file_stream::FileRec;
+use trove_stream::cny_stream::FileRec;
 
 // Whether a directory is to stand there.
 fn is_dir(fate: Fate) -> bool

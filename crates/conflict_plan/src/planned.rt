@@ -1,7 +1,7 @@
 //! The paths that a job changes.
 use tree_scan::Mark;
 use trove_stream::cny_base::{Copies, ListOf, OutOfMemory, Path};
-use trove_stream::file_stream::FileRec;
+use trove_stream::cny_stream::FileRec;
 
 /// A path that a job changes.
 pub struct Planned {

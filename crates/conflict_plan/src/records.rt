@@ -11,7 +11,7 @@ use std::alloc::Global;
 use std::collections::BTreeMap;
 use trove_stream::Trove;
 use trove_stream::cny_base::{Copies, Name, OutOfMemory, Path};
-use trove_stream::file_stream::FileRec;
+use trove_stream::cny_stream::FileRec;
 use trove_stream::trove_parts::FileAt;
 
 /// What the new list records of a path.

@@ -5,7 +5,7 @@ ghost use Rattle.conflict_plan.specs.Table.{recorded_outcome, unrecorded_outcome
 
 use tree_scan::{Mark, are_same_marks};
 use trove_stream::cny_base::{Options, Path};
-use trove_stream::file_stream::FileRec;
+use trove_stream::cny_stream::FileRec;
 
 /// What becomes of a path.
 #[derive(Clone, Copy)]

@@ -3,7 +3,7 @@ use Rattle.std.proofs.Common.{◌≡◌, ◌≢◌, ◌⊎◌, ⊎_elim, inl, in
 use Rattle.std.specs.Prelude.{◌==◌, is_some, MatchOption}
 use Rattle.std.proofs.lemmas.Bool.{cases_lt}
 use Rattle.std.proofs.lemmas.List.{length-take, length-drop, drop-drop, drop_all, take_min}
-use Rattle.cny_lanes.specs.Compare.{IsFirstDifference}
+use Rattle.tree_disk.specs.cny-base.Compare.{IsFirstDifference}
 use Rattle.content_store.specs.Difference.{first_difference, shifted}
 use Rattle.tree_disk.proofs.cny-base.Below.{test_equal as equal_test}
 use Rattle.tree_disk.proofs.cny-base.ByteLists.{read_front}

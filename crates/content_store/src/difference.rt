@@ -2,7 +2,7 @@
 ghost use Rattle.std.specs.Prelude.{◌≡◌, ◌≤◌, IfSome, length};
 ghost use Rattle.content_store.specs.Difference as spec;
 
-use cny_lanes::first_difference;
+use tree_disk::cny_base::first_difference;
 
 /// The first place at which two lists of any lengths differ. Where one is the beginning of the other that is the length of
 /// the shorter.

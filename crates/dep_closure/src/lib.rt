@@ -18,5 +18,5 @@ mod whole;
 pub use changing::Closure;
 pub use laws::one_changed_list;
 pub use trove_stream;
-pub use trove_stream::{cny_base, file_stream, trove_parts};
+pub use trove_stream::{cny_base, cny_stream, trove_parts};
 pub use whole::closed;

@@ -1,6 +1,6 @@
 //! Manifests of trees.
-use cny_pack::cny_flow::MemorySink;
-use cny_pack::file_stream::Owner;
+use cny_pack::cny_base::MemorySink;
+use cny_pack::cny_stream::Owner;
 use cny_pack::{BadWord, DepWords, Owners, PackStop, Pattern, Rules, Unfit, Words, write_manifest};
 use line_words::{Answer, Line};
 use root_words::disk_of;

@@ -13,8 +13,8 @@ use Rattle.local_db.specs.declared.record.Delta.TheVariants.{Came, Was, Turned}
 use Rattle.local_db.specs.declared.record.Record.{Record}
 use Rattle.local_db.specs.declared.record.ToldEntry.{ToldEntry}
 use Rattle.local_db.specs.RecordText.{delta_bytes, delta_value, deltas_text, entries_text, entry_text, tag_of, FitsDelta, IsRecordText, IsToldEntry}
-use Rattle.item_files.specs.Walk.{are_items, is_stream, stream_read}
-use Rattle.item_files.proofs.Streams.{all_lead, all_read, last_item, none_read, one_item, written_stream}
+use Rattle.journal_log.specs.Walk.{are_items, is_stream, stream_read}
+use Rattle.journal_log.proofs.FileStreams.{all_lead, all_read, last_item, none_read, one_item, written_stream}
 use Rattle.job_record.specs.File.{record_read, record_tags}
 use Rattle.job_record.proofs.EntryItems.{entry_fits}
 

@@ -2,7 +2,7 @@
 use Rattle.std.specs.Prelude.{List, ℕ, [], ◌∷◌, Option, Some, None}
 use Rattle.local_db.specs.cny-base.declared.node.Node.{Node}
 use Rattle.local_db.specs.cny-base.declared.node.Node.TheVariants.{Dir, File, Link}
-use Rattle.item_files.specs.Walk.{stream_read}
+use Rattle.journal_log.specs.Walk.{stream_read}
 use Rattle.local_db.specs.declared.format.Format.{Format}
 use Rattle.local_db.specs.Formats.{record_magic}
 

@@ -7,7 +7,7 @@ ghost use Rattle.job_record.specs.File.{record_read};
 use crate::deltas::{CAME, END, ENTRY, TURNED, WAS};
 use crate::reading::magic_of;
 use crate::writing::NUMBER;
-use item_files::read_stream;
+use journal_log::read_stream;
 use local_db::Format;
 use local_db::cny_base::{Bytes, Path, Stop};
 use local_db::tree_disk::{TreeDisk, steps};

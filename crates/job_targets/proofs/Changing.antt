@@ -9,8 +9,8 @@ use Rattle.std.proofs.lemmas.Bool.{cases_Bool}
 use Rattle.std.proofs.lemmas.List.Elements.{All-cons, All-head, All-nil, All-tail}
 use Rattle.local_db.specs.cny-base.Reserved.{is_pinned}
 use Rattle.local_db.specs.cny-base.declared.options.Options.{Options}
-use Rattle.local_db.specs.file-stream.declared.record.FileRec.{FileRec}
-use Rattle.local_db.specs.file-stream.Record.{is_dir, flags_of}
+use Rattle.local_db.specs.cny-stream.declared.record.FileRec.{FileRec}
+use Rattle.local_db.specs.cny-stream.Record.{is_dir, flags_of}
 use Rattle.local_db.specs.trove-stream.declared.parts.TroveParts.{TroveParts}
 use Rattle.local_db.specs.tree-disk.Laws.{same_means}
 use Rattle.local_db.proofs.tree-disk.Laws.{same_itself}

@@ -6,8 +6,8 @@ use Rattle.local_db.specs.cny-base.declared.stop.Stop.{Stop}
 use Rattle.change_set.specs.declared.change.Carried.{Carried}
 use Rattle.conflict_plan.specs.declared.planned.Planned.{Planned}
 use Rattle.content_store.specs.Contents.{Answers, ContentsModel, IsSource}
-use Rattle.local_db.specs.file-stream.declared.record.FileRec.{FileRec}
-use Rattle.local_db.specs.file-stream.declared.record.FileRec.TheVariants as rec
+use Rattle.local_db.specs.cny-stream.declared.record.FileRec.{FileRec}
+use Rattle.local_db.specs.cny-stream.declared.record.FileRec.TheVariants as rec
 use Rattle.local_db.specs.journal-log.declared.put.Put.{Put}
 use Rattle.local_db.specs.tree-disk.Disk.{DiskModel, IsDisk}
 use Rattle.local_db.specs.tree-disk.Tree.{Tree}

@@ -14,8 +14,8 @@ use Rattle.change_set.specs.declared.change.Carried.{Carried}
 use Rattle.conflict_plan.specs.declared.planned.Planned.{Planned}
 use Rattle.conflict_plan.specs.Orphans.{IsSeenPlan}
 use Rattle.conflict_plan.specs.Plan.{mark_of_want, planned_cmp}
-use Rattle.local_db.specs.file-stream.declared.record.FileRec.{FileRec}
-use Rattle.local_db.specs.file-stream.declared.record.FileRec.TheVariants as rec
+use Rattle.local_db.specs.cny-stream.declared.record.FileRec.{FileRec}
+use Rattle.local_db.specs.cny-stream.declared.record.FileRec.TheVariants as rec
 use Rattle.local_db.specs.journal-log.declared.put.Put.{Put}
 use Rattle.local_db.specs.journal-log.declared.put.Want.{Want}
 use Rattle.local_db.specs.journal-log.Targets.{node_of}

@@ -8,7 +8,7 @@ use Rattle.local_db.specs.Steps.{want_of}
 use Rattle.local_db.specs.SystemState.{IsSmall, IsTellable}
 use Rattle.tree_scan.specs.Marks.{fingerprint}
 use Rattle.job_targets.specs.Targets.{IsOldWant}
-use Rattle.change_set.proofs.file-stream.Digests.{digest_long}
+use Rattle.change_set.proofs.cny-stream.Digests.{digest_long}
 use Rattle.local_db.proofs.Systems.{node_of_want as node_back}
 
 -- ---- wants

@@ -9,7 +9,6 @@ pub use Rattle.change_set.specs as change-set
 pub use Rattle.local_db.specs.cny-base
 pub use Rattle.local_db.specs.cny-stream
 pub use Rattle.content_store.specs as content-store
-pub use Rattle.local_db.specs.file-stream
 pub use Rattle.local_db.specs.journal-log
 pub use Rattle.local_db.specs.tree-disk
 pub use Rattle.local_db.specs.tree-journal

@@ -11,8 +11,8 @@ use Rattle.local_db.specs.cny-base.declared.refusal.What.TheVariants.{Local}
 use Rattle.local_db.specs.cny-base.declared.stop.Stop.{Stop}
 use Rattle.change_set.specs.declared.change.Carried.{Carried}
 use Rattle.conflict_plan.specs.declared.planned.Planned.{Planned}
-use Rattle.local_db.specs.file-stream.declared.record.FileRec.{FileRec}
-use Rattle.local_db.specs.file-stream.declared.record.FileRec.TheVariants as rec
+use Rattle.local_db.specs.cny-stream.declared.record.FileRec.{FileRec}
+use Rattle.local_db.specs.cny-stream.declared.record.FileRec.TheVariants as rec
 use Rattle.local_db.specs.journal-log.declared.put.Put.{Put}
 use Rattle.local_db.specs.journal-log.Targets.{node_of}
 use Rattle.job_targets.specs.declared.entry.Entry.{Entry}

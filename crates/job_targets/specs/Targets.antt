@@ -7,8 +7,8 @@ use Rattle.local_db.specs.cny-base.declared.limits.TheConstants.{CONTENT_LIMIT}
 use Rattle.change_set.specs.declared.change.Carried.{Carried}
 use Rattle.conflict_plan.specs.declared.planned.Planned.{Planned}
 use Rattle.conflict_plan.specs.Plan.{mark_of_want}
-use Rattle.local_db.specs.file-stream.declared.record.FileRec.{FileRec}
-use Rattle.local_db.specs.file-stream.declared.record.FileRec.TheVariants as rec
+use Rattle.local_db.specs.cny-stream.declared.record.FileRec.{FileRec}
+use Rattle.local_db.specs.cny-stream.declared.record.FileRec.TheVariants as rec
 use Rattle.local_db.specs.journal-log.declared.put.Put.{Put}
 use Rattle.local_db.specs.journal-log.declared.put.Want.{Want}
 use Rattle.local_db.specs.journal-log.declared.put.Want.TheVariants as want

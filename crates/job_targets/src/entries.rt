@@ -13,7 +13,7 @@ ghost use Rattle.job_targets.specs.Targets.{entries_at, entry_at, first_large, H
 use crate::entry::{Entries, Entry};
 use conflict_plan::Planned;
 use local_db::cny_base::{Bytes, CONTENT_LIMIT, Copies, OutOfMemory, Path, Refusal, Stop, What};
-use local_db::file_stream::FileRec;
+use local_db::cny_stream::FileRec;
 use local_db::journal_log::Want;
 use local_db::mark_of_record;
 use local_db::tree_disk::{TreeDisk, steps};

@@ -23,7 +23,7 @@ pub use change_set;
 pub use content_store;
 pub use entry::{Entries, Entry};
 pub use laws::planned_is_seen;
-pub use local_db::{cny_base, file_stream, journal_log, tree_disk, trove_parts, trove_stream};
+pub use local_db::{cny_base, cny_stream, journal_log, tree_disk, trove_parts, trove_stream};
 pub use marks::mark_of;
 pub use old::old_node;
 pub use rising::are_rising;

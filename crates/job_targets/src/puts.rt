@@ -18,7 +18,7 @@ use change_set::Carried;
 use conflict_plan::Planned;
 use content_store::Contents;
 use local_db::cny_base::{Copies, Mode, Refusal, Stop};
-use local_db::file_stream::FileRec;
+use local_db::cny_stream::FileRec;
 use local_db::journal_log::{Put, Puts, Want};
 use local_db::tree_disk::TreeDisk;
 use std::alloc::Global;

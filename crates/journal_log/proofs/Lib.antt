@@ -16,3 +16,5 @@ pub mod StagedLaws
 pub use Rattle.tree_disk.proofs as tree-disk
 pub use Rattle.tree_disk.proofs.cny-base
 pub mod FileNames
+pub mod FileWalking
+pub mod FileStreams

@@ -8,5 +8,6 @@ pub mod Rules
 pub mod Joined
 pub mod PutItem
 pub mod TwoStrs
+pub mod Walk
 pub use Rattle.tree_disk.specs.cny-base
 pub use Rattle.tree_disk.specs as tree-disk

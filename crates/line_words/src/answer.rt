@@ -2,7 +2,7 @@
 use crate::first_stop::FirstStop;
 use crate::stop::Stop;
 use cny_report::cny_base::{self, Bytes, Copies, Mode, OutOfMemory, Refusal, Text, decimal, octal};
-use cny_report::file_stream::Flags;
+use cny_report::cny_stream::Flags;
 use cny_report::refusal_text;
 use cny_report::trove_parts::{TroveId, id_text};
 use cny_report::trove_stream::Trove;

@@ -23,7 +23,6 @@ mod why;
 pub use answer::Answer;
 pub use argument::{Argument, arguments_of};
 pub use cny_dep;
-pub use cny_flavor;
 pub use cny_report;
 pub use cny_version;
 pub use line::Line;

@@ -1,7 +1,6 @@
 //! Values of arguments.
 use crate::stop::Stop;
-use cny_dep::Dep;
-use cny_flavor::Flavor;
+use cny_dep::{Dep, Flavor};
 use cny_report::cny_base::{Bytes, Mode, Name, Path, Target, Text, read_octal, text_of};
 use cny_report::trove_parts::{TroveId, read_id};
 use cny_report::trove_stream::{Trove, decode};

@@ -1,10 +1,10 @@
 //! Calls on updates that complete themselves.
 use crate::catalogue::reached;
 use crate::specs::config_of;
-use dep_resolve::complete;
 use line_words::{Answer, Line};
 use repo_index::Catalogue;
 use repo_index::trove_parts::TroveId;
+use sys_model::complete;
 
 /// `completed TROVES IDS LABELS FLAVOR`: the ids of what an update of these roots brings which completes itself, for an installed list
 /// and a configuration.

@@ -1,6 +1,6 @@
 //! Plans of what stands to what troves want.
 use conflict_plan::{Planned, PlannedList, plan};
-use job_targets::file_stream::FileRec;
+use job_targets::cny_stream::FileRec;
 use job_targets::trove_stream::Trove;
 use line_words::tree_scan::Mark;
 use line_words::{Answer, Line};

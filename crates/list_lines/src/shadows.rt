@@ -2,7 +2,7 @@
 use line_words::cny_version::Label;
 use line_words::{Answer, Line};
 use repo_index::Catalogue;
-use repo_index::file_stream::FileRec;
+use repo_index::cny_stream::FileRec;
 use repo_index::trove_parts::TroveId;
 use repo_index::trove_stream::{FileAt, Trove, Troves};
 use repo_shadow::{Way, all_refer_within, moved};

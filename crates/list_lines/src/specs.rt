@@ -1,5 +1,5 @@
 //! Calls on specifications and configuration files.
-use line_words::cny_flavor::Flavor;
+use line_words::cny_dep::Flavor;
 use line_words::{Answer, Line};
 use repo_index::Catalogue;
 use repo_index::cny_base::CONFIG_LIMIT;

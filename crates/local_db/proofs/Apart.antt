@@ -11,18 +11,18 @@ use Rattle.std.proofs.lemmas.List.Elements.{All-append, All-cons, All-contains, 
 use Rattle.std.proofs.lemmas.List.Quantifiers.{all_pairs_push}
 use Rattle.std.proofs.lemmas.Map.Keys.{Less-from_sorted}
 use Rattle.std.proofs.lemmas.Slice.Eq.{bytes_eq-Decides}
-use Rattle.change_rel.specs.file-stream.Record.{is_dir}
-use Rattle.change_rel.specs.trove-parts.declared.files.FileAt.{FileAt}
-use Rattle.change_rel.specs.trove-parts.Files.{file_cmp, AreFiles}
-use Rattle.change_rel.specs.trove-stream.declared.parts.TroveParts.{TroveParts}
+use Rattle.trove_stream.specs.cny-stream.Record.{is_dir}
+use Rattle.trove_stream.specs.trove-parts.declared.files.FileAt.{FileAt}
+use Rattle.trove_stream.specs.trove-parts.Files.{file_cmp, AreFiles}
+use Rattle.trove_stream.specs.declared.parts.TroveParts.{TroveParts}
 use Rattle.tree_journal.specs.tree-disk.Laws.{same_means}
 use Rattle.tree_journal.proofs.tree-disk.Laws.{same_itself}
 use Rattle.tree_journal.specs.tree-disk.Tree.{Name, same_name}
 use Rattle.local_db.specs.Installed.{are_apart, SharesDirsAlone}
 use Rattle.local_db.specs.Sharing.{Kinds, kind_at, Records, AreNoted, IsApart, AreApart}
-use Rattle.change_rel.specs.trove-stream.FilesOf.{files_of}
-use Rattle.change_rel.proofs.cny-base.Lists.{all_from as all_of, left_all, right_all}
-use Rattle.change_rel.proofs.cny-base.OptionValues.{same_some}
+use Rattle.trove_stream.specs.FilesOf.{files_of}
+use Rattle.trove_stream.proofs.cny-base.Lists.{all_from as all_of, left_all, right_all}
+use Rattle.trove_stream.proofs.cny-base.OptionValues.{same_some}
 
 -- ---- lists
 

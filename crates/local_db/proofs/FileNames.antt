@@ -4,13 +4,13 @@ use Rattle.std.specs.Prelude.{◌==◌, codes}
 use Rattle.std.specs.Cmp.Derive.{both_true}
 use Rattle.std.specs.Fmt.{decimal}
 use Rattle.std.proofs.lemmas.Fmt.{length-decimal-le}
-use Rattle.change_rel.proofs.cny-base.Parent.{join_is_path}
-use Rattle.change_rel.specs.cny-base.Path.{is_dots, is_path}
-use Rattle.change_rel.specs.cny-base.Reserved.{private_directory}
+use Rattle.trove_stream.proofs.cny-base.Parent.{join_is_path}
+use Rattle.trove_stream.specs.cny-base.Path.{is_dots, is_path}
+use Rattle.trove_stream.specs.cny-base.Reserved.{private_directory}
 use Rattle.tree_journal.specs.tree-disk.Tree.{Name}
 use Rattle.local_db.specs.Names.{database, record_file, saved}
-use Rattle.change_rel.proofs.cny-base.FileNames.{is_low, parts}
-use Rattle.change_rel.proofs.cny-base.Counts.{fits as at_most}
+use Rattle.trove_stream.proofs.cny-base.FileNames.{is_low, parts}
+use Rattle.trove_stream.proofs.cny-base.Counts.{fits as at_most}
 use Rattle.tree_journal.proofs.journal-log.FileNames.{digits_low}
 
 -- ---- one part of a path

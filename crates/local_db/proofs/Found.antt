@@ -4,7 +4,7 @@ use Rattle.std.specs.Prelude.{slice_range}
 use Rattle.cny_stream.specs.Item.{FitsItem, IsItemAt, item_bytes}
 use Rattle.cny_stream.specs.ItemLaws.{SameItem}
 use Rattle.cny_stream.proofs.ItemLaws.{same_item}
-use Rattle.change_rel.specs.trove-stream.declared.parts.TroveParts.{TroveParts}
+use Rattle.trove_stream.specs.declared.parts.TroveParts.{TroveParts}
 use Rattle.local_db.specs.declared.format.Format.{Format}
 use Rattle.local_db.specs.Formats.{trove_text}
 use Rattle.local_db.specs.Reading.{IsNoTroveAt, IsTroveText}

@@ -2,8 +2,8 @@
 use Rattle.std.proofs.Common.{◌≡◌, inl, inr, ⊎_elim, ℕ, true, not, List, [], ◌∷◌, sym, ◌∙◌, ap}
 use Rattle.std.specs.FinMap.{get}
 use Rattle.sha1.specs.Sha1.{sha1}
-use Rattle.change_rel.specs.cny-base.Reserved.{private_directory, is_reserved}
-use Rattle.change_rel.specs.trove-stream.declared.parts.TroveParts.{TroveParts}
+use Rattle.trove_stream.specs.cny-base.Reserved.{private_directory, is_reserved}
+use Rattle.trove_stream.specs.declared.parts.TroveParts.{TroveParts}
 use Rattle.tree_journal.specs.tree-disk.Tree.{Name, Tree, same_name}
 use Rattle.tree_journal.proofs.tree-disk.Laws.{same_itself}
 use Rattle.tree_journal.specs.journal-log.Own.{StoresSame}
@@ -13,7 +13,7 @@ use Rattle.local_db.specs.Names.{database, record_file, saved, is_job_name, is_j
 use Rattle.content_store.specs.Store.{content_path, file_bytes}
 use Rattle.local_db.specs.Stores.{HoldsFile, HoldsItem, HoldsStack, HoldsDatabase, absent, written, StoresIn, StoresSystem}
 use Rattle.local_db.proofs.Places.{record_is_job, content_is_job, own_doesnt_count}
-use Rattle.change_rel.proofs.cny-base.Bools.{or_left, or_right}
+use Rattle.trove_stream.proofs.cny-base.Bools.{or_left, or_right}
 
 pub file_stays : (x y : Tree) (name bytes : List ℕ) → get y name ≡ get x name → HoldsFile x name bytes → HoldsFile y name bytes
 file_stays x y name bytes same h = ap file_bytes same ∙ h

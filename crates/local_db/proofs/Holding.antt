@@ -3,15 +3,15 @@ use Rattle.std.proofs.Common.{◌≡◌, ⊎_elim, ℕ, ◌<◌, ◌≤◌, ◌^
 use Rattle.std.specs.Prelude.{IfOk, IfErr, nat_le}
 use Rattle.std.specs.Int.{w32, to_be_bytes}
 use Rattle.std.proofs.lemmas.List.Elements.{All-nil, All-cons}
-use Rattle.change_rel.specs.cny-base.Below.{begins_with}
-use Rattle.change_rel.proofs.cny-base.Below.{begun}
-use Rattle.change_rel.specs.cny-base.declared.limits.TheConstants.{DATABASE_LIMIT}
-use Rattle.change_rel.specs.cny-base.declared.node.Node.{Node}
-use Rattle.change_rel.specs.cny-base.declared.node.Node.TheVariants as node
-use Rattle.change_rel.specs.cny-base.declared.stop.Stop.{Stop}
-use Rattle.change_rel.specs.cny-base.declared.stop.Stop.TheVariants as stop
+use Rattle.trove_stream.specs.cny-base.Below.{begins_with}
+use Rattle.trove_stream.proofs.cny-base.Below.{begun}
+use Rattle.trove_stream.specs.cny-base.declared.limits.TheConstants.{DATABASE_LIMIT}
+use Rattle.trove_stream.specs.cny-base.declared.node.Node.{Node}
+use Rattle.trove_stream.specs.cny-base.declared.node.Node.TheVariants as node
+use Rattle.trove_stream.specs.cny-base.declared.stop.Stop.{Stop}
+use Rattle.trove_stream.specs.cny-base.declared.stop.Stop.TheVariants as stop
 use Rattle.content_store.specs.Store.{file_bytes}
-use Rattle.change_rel.specs.trove-stream.declared.parts.TroveParts.{TroveParts}
+use Rattle.trove_stream.specs.declared.parts.TroveParts.{TroveParts}
 use Rattle.tree_journal.specs.tree-disk.Tree.{Name, Tree}
 use Rattle.local_db.specs.declared.format.Format.{Format}
 use Rattle.local_db.specs.declared.format.Format.TheVariants.{One, Two}
@@ -25,8 +25,8 @@ use Rattle.local_db.specs.Database.{IsDatabaseFile}
 use Rattle.local_db.specs.Loading.{HoldsDb, HoldsNoDb, IsLoadStop, IsTextStop, found_of}
 use Rattle.local_db.specs.Reading.{FitsTrove, IsDatabaseText, end_bytes}
 use Rattle.local_db.proofs.Texts.{item_of, items_of, one_text}
-use Rattle.change_rel.proofs.trove-stream.Distinct.{TrovesDiffer}
-use Rattle.change_rel.proofs.cny-base.OptionValues.{same_path as some_bytes}
+use Rattle.trove_stream.proofs.Distinct.{TrovesDiffer}
+use Rattle.trove_stream.proofs.cny-base.OptionValues.{same_path as some_bytes}
 
 -- ---- a database's file is in the grammar
 

@@ -8,8 +8,8 @@ use Rattle.std.proofs.lemmas.List.Elements.{All-map, All-contains}
 use Rattle.tree_journal.proofs.tree-disk.ClearLaws.{or_cases}
 use Rattle.tree_journal.specs.journal-log.declared.put.Put.{Put}
 use Rattle.std.specs.FinMap.{get}
-use Rattle.change_rel.specs.cny-base.Reserved.{private_directory}
-use Rattle.change_rel.specs.cny-base.declared.limits.TheConstants.{STACK_LIMIT}
+use Rattle.trove_stream.specs.cny-base.Reserved.{private_directory}
+use Rattle.trove_stream.specs.cny-base.declared.limits.TheConstants.{STACK_LIMIT}
 use Rattle.tree_journal.specs.tree-disk.Tree.{Name, Tree, same_name}
 use Rattle.tree_journal.proofs.tree-disk.Laws.{same_tree}
 use Rattle.tree_journal.specs.tree-disk.Disk.{IsCrashImage}
@@ -26,7 +26,7 @@ use Rattle.local_db.proofs.Frame.{stores_still}
 use Rattle.local_db.proofs.Systems.{four_bytes, numbers_by_length, numbered_take, node_of_want, listed_backs, rising_backs}
 use Rattle.tree_journal.proofs.WriteSets.{target_at, with_targets_outside}
 use Rattle.tree_scan.proofs.tree-disk.Nodes.{left_true as first_so}
-use Rattle.change_rel.proofs.cny-base.Bools.{or_left}
+use Rattle.trove_stream.proofs.cny-base.Bools.{or_left}
 use Rattle.tree_scan.proofs.tree-disk.Laws.{second as second_so}
 
 pub all_still : (x y : Tree) (s : SystemState) → ((q : Name) → counts s q ≡ true → get y q ≡ get x q) → StoresSystem x s → StoresSystem y s

@@ -5,8 +5,8 @@ use Rattle.std.proofs.lemmas.Bool.{false≢true}
 use Rattle.std.proofs.lemmas.List.Elements.{All-nil, All-cons, All-head, All-tail}
 use Rattle.cny_stream.specs.Item.{FitsItem, item_bytes}
 use Rattle.cny_stream.proofs.ItemLaws.{same_item}
-use Rattle.change_rel.specs.trove-parts.Items.{items_bytes, begins_with_tag}
-use Rattle.change_rel.proofs.cny-base.Below.{equal_test as itself}
+use Rattle.trove_stream.specs.trove-parts.Items.{items_bytes, begins_with_tag}
+use Rattle.trove_stream.proofs.cny-base.Below.{equal_test as itself}
 
 item_length : (tag : ℕ) (v rest : List ℕ) → length (item_bytes tag v ++ rest) ≡ 5 + length v + length rest
 item_length tag v rest = omega (arith, length-append (item_bytes tag v) rest, length-append (tag ∷ to_be_bytes w32 (length v)) v)

@@ -2,10 +2,10 @@
 use Rattle.std.proofs.Common.{◌≡◌, ⊎_elim, ℕ, zero, suc, ◌+◌, ◌<◌, ◌^◌, true, false, not, List, [], ◌∷◌, take, refl, ◌∙◌, ap, subst, arith, ◌≤◌}
 use Rattle.std.proofs.lemmas.Bool.{cases_Bool}
 use Rattle.std.specs.FinMap.{get}
-use Rattle.change_rel.specs.cny-base.Reserved.{is_reserved}
-use Rattle.change_rel.specs.cny-base.declared.limits.TheConstants.{JOBS_LIMIT}
+use Rattle.trove_stream.specs.cny-base.Reserved.{is_reserved}
+use Rattle.trove_stream.specs.cny-base.declared.limits.TheConstants.{JOBS_LIMIT}
 use Rattle.sha1.specs.Sha1.{sha1}
-use Rattle.change_rel.specs.trove-stream.declared.parts.TroveParts.{TroveParts}
+use Rattle.trove_stream.specs.declared.parts.TroveParts.{TroveParts}
 use Rattle.tree_journal.specs.tree-disk.Tree.{Name, Tree, same_name, WellFormed, AgreesOutside}
 use Rattle.tree_journal.specs.tree-disk.Laws.{same_means}
 use Rattle.tree_journal.proofs.tree-disk.ClearLaws.{or_cases}
@@ -24,9 +24,9 @@ use Rattle.local_db.proofs.Places.{database_reserved, record_reserved, job_reser
 use Rattle.local_db.proofs.Frame.{file_stays, olds_stay}
 use Rattle.local_db.proofs.Unions.{wrote_more, wrote_no_other, wrote_alike}
 use Rattle.local_db.proofs.Systems.{four_bytes, numbered_rest, newest_rest, free_targets, free_backs, rising_backs, job_is_system, rollback_is_system, newest_is_old, system_database}
-use Rattle.change_rel.proofs.cny-base.Lists.{contains_first, contains_rest}
+use Rattle.trove_stream.proofs.cny-base.Lists.{contains_first, contains_rest}
 use Rattle.tree_scan.proofs.tree-disk.Children.{or_none as neither}
-use Rattle.change_rel.proofs.cny-base.Bools.{or_left, or_right}
+use Rattle.trove_stream.proofs.cny-base.Bools.{or_left, or_right}
 
 -- ---- two writes below the private directory
 

@@ -24,8 +24,8 @@ pub mod FileNames
 pub mod Unedited
 pub mod StagedContents
 pub use Rattle.tree_journal.proofs as tree-journal
-pub use Rattle.change_rel.proofs.trove-stream
+pub use Rattle.trove_stream.proofs as trove-stream
 pub use Rattle.tree_journal.proofs.tree-disk
-pub use Rattle.change_rel.proofs.cny-base
+pub use Rattle.trove_stream.proofs.cny-base
 pub use Rattle.tree_journal.proofs.journal-log
-pub use Rattle.change_rel.proofs.trove-parts
+pub use Rattle.trove_stream.proofs.trove-parts

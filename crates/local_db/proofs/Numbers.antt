@@ -4,7 +4,7 @@ use Rattle.std.specs.Int.{w32, to_be_bytes, from_be_bytes}
 use Rattle.std.proofs.lemmas.List.{length-take, take-append-drop}
 use Rattle.std.proofs.lemmas.Nat.{be_bytes_4}
 use Rattle.local_db.specs.Reading.{AreNumbers}
-use Rattle.change_rel.proofs.cny-base.StrFields.{IsBytes, drop_bytes, take_bytes}
+use Rattle.trove_stream.proofs.cny-base.StrFields.{IsBytes, drop_bytes, take_bytes}
 use Rattle.cny_stream.proofs.Items.{head_below as below}
 
 pub numbers_here : (value rest last : List ℕ) (oldest newest : ℕ) → IsBytes value → 4 ≤ length value → oldest ≡ from_be_bytes w32 (take 4 value) → rest ≡ drop 4 value

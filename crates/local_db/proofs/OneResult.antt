@@ -1,9 +1,9 @@
 -- A record leads back to one list.
 use Rattle.std.proofs.Common.{◌≡◌, List, Option, Some, None, refl, sym, ◌∙◌, ap}
-use Rattle.change_rel.specs.Leads.{Leads}
-use Rattle.change_rel.specs.trove-stream.declared.rel.RelParts.{RelParts}
-use Rattle.change_rel.specs.trove-stream.declared.parts.TroveParts.{TroveParts}
-use Rattle.change_rel.specs.trove-stream.Installed.{trove_of}
+use Rattle.trove_stream.specs.Leads.{Leads}
+use Rattle.trove_stream.specs.declared.rel.RelParts.{RelParts}
+use Rattle.trove_stream.specs.declared.parts.TroveParts.{TroveParts}
+use Rattle.trove_stream.specs.Installed.{trove_of}
 use Rattle.local_db.specs.Installed.{IsInstalled}
 use Rattle.local_db.specs.Record.{Delta, came, was, turned, delta_at, TakesBackAt, TakesBack}
 use Rattle.local_db.proofs.Sorted.{same_troves}

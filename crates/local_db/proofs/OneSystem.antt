@@ -4,10 +4,10 @@ use Rattle.std.proofs.lemmas.Bool.{cases_Bool}
 use Rattle.std.proofs.lemmas.List.Elements.{All-head, All-tail}
 use Rattle.std.specs.FinMap.{get}
 use Rattle.sha1.specs.Sha1.{sha1}
-use Rattle.change_rel.specs.cny-base.Reserved.{is_reserved}
-use Rattle.change_rel.specs.cny-base.declared.node.Node.{Node}
-use Rattle.change_rel.specs.cny-base.declared.node.Node.TheVariants as node
-use Rattle.change_rel.specs.trove-stream.declared.parts.TroveParts.{TroveParts}
+use Rattle.trove_stream.specs.cny-base.Reserved.{is_reserved}
+use Rattle.trove_stream.specs.cny-base.declared.node.Node.{Node}
+use Rattle.trove_stream.specs.cny-base.declared.node.Node.TheVariants as node
+use Rattle.trove_stream.specs.declared.parts.TroveParts.{TroveParts}
 use Rattle.tree_journal.specs.tree-disk.Tree.{Name, Tree}
 use Rattle.tree_journal.proofs.tree-disk.Laws.{same_tree}
 use Rattle.tree_scan.specs.declared.mark.Mark.{Mark}
@@ -24,9 +24,9 @@ use Rattle.local_db.specs.Stores.{IsDatabase, SameDatabase, HoldsFile, HoldsItem
 use Rattle.local_db.proofs.OneResult.{OneLed, one_list_back}
 use Rattle.local_db.proofs.Systems.{four_bytes, low_at_least as at_least_one, numbers_by_length as lengths_by_numbers, numbered_rest as rest_numbered}
 use Rattle.local_db.proofs.Spellings.{Distinct, one_delta_list, one_entry_list, entries_part, one_format, one_database}
-use Rattle.change_rel.proofs.cny-base.Lists.{contains_cases, nothing_in}
+use Rattle.trove_stream.proofs.cny-base.Lists.{contains_cases, nothing_in}
 use Rattle.local_db.proofs.Holding.{low_end as ends_small}
-use Rattle.change_rel.proofs.cny-base.OptionValues.{same_some}
+use Rattle.trove_stream.proofs.cny-base.OptionValues.{same_some}
 
 -- ---- one file
 

@@ -4,12 +4,12 @@ use Rattle.std.specs.List.Sorted.{IsStrictlySortedBy}
 use Rattle.std.proofs.lemmas.List.Elements.{All-nil, All-map, All-head, All-tail}
 use Rattle.std.specs.FinMap.{get}
 use Rattle.sha1.specs.Sha1.{sha1}
-use Rattle.change_rel.specs.cny-base.Reserved.{is_reserved}
-use Rattle.change_rel.specs.cny-base.declared.node.Node.{Node}
-use Rattle.change_rel.specs.cny-base.declared.node.Node.TheVariants as node
-use Rattle.change_rel.specs.trove-stream.declared.parts.TroveParts.{TroveParts}
-use Rattle.change_rel.specs.trove-stream.Trove.{IsTrove}
-use Rattle.change_rel.specs.trove-stream.Forbidden.{first_forbidden}
+use Rattle.trove_stream.specs.cny-base.Reserved.{is_reserved}
+use Rattle.trove_stream.specs.cny-base.declared.node.Node.{Node}
+use Rattle.trove_stream.specs.cny-base.declared.node.Node.TheVariants as node
+use Rattle.trove_stream.specs.declared.parts.TroveParts.{TroveParts}
+use Rattle.trove_stream.specs.Trove.{IsTrove}
+use Rattle.trove_stream.specs.Forbidden.{first_forbidden}
 use Rattle.tree_journal.specs.tree-disk.Tree.{Name, Tree, same_name, WellFormed}
 use Rattle.tree_journal.specs.journal-log.declared.put.Put.{Put}
 use Rattle.tree_journal.specs.journal-log.Targets.{node_of, is_target, with_targets}
@@ -31,7 +31,7 @@ use Rattle.local_db.proofs.Unions.{wrote_more, wrote_no_other}
 use Rattle.local_db.proofs.Systems.{system_database}
 use Rattle.local_db.proofs.Jobs.{outer_differs}
 use Rattle.local_db.proofs.Together.{nothing_fits}
-use Rattle.change_rel.proofs.cny-base.Lists.{contains_first, contains_rest}
+use Rattle.trove_stream.proofs.cny-base.Lists.{contains_first, contains_rest}
 use Rattle.tree_scan.proofs.tree-disk.Children.{or_none as neither}
 
 -- ---- nothing installed

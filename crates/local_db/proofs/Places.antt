@@ -8,10 +8,10 @@ use Rattle.std.specs.Fmt as fmt
 use Rattle.std.specs.Str.Parse.{digits_value}
 use Rattle.std.specs.Str.{bytes_eq}
 use Rattle.hex.specs.Hex.{encode_lower}
-use Rattle.change_rel.specs.cny-base.Path.{is_slash, has_slash, or_root, parent}
-use Rattle.change_rel.specs.cny-base.Below.{is_below}
-use Rattle.change_rel.proofs.cny-base.Below.{below_rest, rest_below, before_join}
-use Rattle.change_rel.specs.cny-base.Reserved.{private_directory, is_reserved}
+use Rattle.trove_stream.specs.cny-base.Path.{is_slash, has_slash, or_root, parent}
+use Rattle.trove_stream.specs.cny-base.Below.{is_below}
+use Rattle.trove_stream.proofs.cny-base.Below.{below_rest, rest_below, before_join}
+use Rattle.trove_stream.specs.cny-base.Reserved.{private_directory, is_reserved}
 use Rattle.std.specs.FinMap.{get}
 use Rattle.tree_journal.specs.journal-log.declared.put.Put.{Put}
 use Rattle.local_db.specs.Steps.{IsOwnWrite}
@@ -25,7 +25,7 @@ use Rattle.tree_journal.specs.journal-log.Own.{gate, log, work, staged, is_own}
 use Rattle.local_db.specs.SystemState.{StackItem, SystemState, newest, oldest, AreNumbered}
 use Rattle.local_db.specs.Names.{database, record_file, saved, is_job_name, is_job_name_of, is_job_place, counts}
 use Rattle.content_store.specs.Store.{content_path}
-use Rattle.change_rel.proofs.cny-base.Bools.{first_false as first_no, or_left, or_right, second_false as rest_no}
+use Rattle.trove_stream.proofs.cny-base.Bools.{first_false as first_no, or_left, or_right, second_false as rest_no}
 use Rattle.tree_scan.proofs.tree-disk.ClearLaws.{itself_within as same_within}
 
 -- ---- the byte behind the slash

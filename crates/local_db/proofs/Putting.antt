@@ -4,11 +4,11 @@ use Rattle.std.specs.Str.{bytes_eq}
 use Rattle.std.proofs.lemmas.Bool.{cases_Bool}
 use Rattle.std.proofs.lemmas.List.Elements.{All-contains, Contains-get_or}
 use Rattle.std.specs.FinMap.{get}
-use Rattle.change_rel.specs.cny-base.Path.{is_path, root, parent}
-use Rattle.change_rel.specs.cny-base.Below.{is_below}
-use Rattle.change_rel.proofs.cny-base.Below.{child_below, below_parent}
-use Rattle.change_rel.specs.cny-base.Reserved.{private_directory, is_reserved, is_pinned}
-use Rattle.change_rel.specs.cny-base.declared.node.Node.{Node}
+use Rattle.trove_stream.specs.cny-base.Path.{is_path, root, parent}
+use Rattle.trove_stream.specs.cny-base.Below.{is_below}
+use Rattle.trove_stream.proofs.cny-base.Below.{child_below, below_parent}
+use Rattle.trove_stream.specs.cny-base.Reserved.{private_directory, is_reserved, is_pinned}
+use Rattle.trove_stream.specs.cny-base.declared.node.Node.{Node}
 use Rattle.std.proofs.lemmas.Slice.Eq.{bytes_eq-Decides}
 use Rattle.tree_journal.specs.tree-disk.Tree.{Name, Tree, is_dir, may_stand, WellFormed}
 use Rattle.tree_journal.proofs.tree-disk.Children.{none_below, not_below_itself as none_itself}

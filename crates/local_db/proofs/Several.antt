@@ -1,8 +1,8 @@
 -- Several rollbacks by one write set.
 use Rattle.std.proofs.Common.{◌≡◌, ◌<◌, ◌^◌, true, false, List, [], ◌∷◌, ◌++◌, refl, sym, ◌∙◌, ap, subst, arith, ◌≤◌}
 use Rattle.std.specs.FinMap.{get}
-use Rattle.change_rel.specs.cny-base.Reserved.{is_reserved}
-use Rattle.change_rel.specs.cny-base.declared.limits.TheConstants.{JOBS_LIMIT}
+use Rattle.trove_stream.specs.cny-base.Reserved.{is_reserved}
+use Rattle.trove_stream.specs.cny-base.declared.limits.TheConstants.{JOBS_LIMIT}
 use Rattle.content_store.specs.Store.{file_bytes}
 use Rattle.tree_journal.specs.tree-disk.Tree.{Name, Tree, same_name, AgreesOutside}
 use Rattle.tree_journal.specs.journal-log.declared.put.Put.{Put}
@@ -20,7 +20,7 @@ use Rattle.local_db.proofs.Unions.{wrote_more, wrote_no_other, wrote_alike}
 use Rattle.local_db.proofs.Systems.{four_bytes, numbered_rest, newest_rest, free_targets, rollback_is_system, system_database}
 use Rattle.local_db.proofs.Jobs.{outer_differs, not_later_record, stack_reserved}
 use Rattle.local_db.proofs.Together.{list_fits}
-use Rattle.change_rel.proofs.cny-base.Lists.{contains_first}
+use Rattle.trove_stream.proofs.cny-base.Lists.{contains_first}
 use Rattle.tree_scan.proofs.tree-disk.Children.{or_none as neither}
 
 -- ---- the system

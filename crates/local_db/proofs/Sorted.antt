@@ -10,17 +10,17 @@ use Rattle.std.specs.Cmp.Lexicographic.{slice_cmp, nat_list_cmp_total}
 use Rattle.std.specs.List.Sorted.{IsStrictlySortedBy}
 use Rattle.std.specs.Ordering.{nat_cmp}
 use Rattle.std.specs.declared.cmp.Ordering.TheVariants.{Less}
-use Rattle.change_rel.specs.trove-stream.declared.parts.TroveParts.{TroveParts}
+use Rattle.trove_stream.specs.declared.parts.TroveParts.{TroveParts}
 use Rattle.tree_journal.specs.tree-disk.Tree.{Name, same_name}
 use Rattle.tree_journal.specs.tree-disk.Laws.{same_means}
 use Rattle.tree_journal.proofs.tree-disk.Laws.{same_itself}
-use Rattle.change_rel.specs.trove-stream.Installed.{by_name, trove_of}
+use Rattle.trove_stream.specs.Installed.{by_name, trove_of}
 use Rattle.local_db.specs.SystemState.{is_listed}
-use Rattle.change_rel.proofs.trove-stream.Places.{name_of}
-use Rattle.change_rel.proofs.cny-base.Lists.{contains_cases, contains_first, contains_rest, nothing_in}
-use Rattle.change_rel.proofs.cny-base.Sorted.{later_less, not_less_itself}
-use Rattle.change_rel.proofs.Members.{same_members}
-use Rattle.change_rel.proofs.cny-base.OptionValues.{same_some as some_same}
+use Rattle.trove_stream.proofs.Places.{name_of}
+use Rattle.trove_stream.proofs.cny-base.Lists.{contains_cases, contains_first, contains_rest, nothing_in}
+use Rattle.trove_stream.proofs.cny-base.Sorted.{later_less, not_less_itself}
+use Rattle.trove_stream.proofs.Members.{same_members}
+use Rattle.trove_stream.proofs.cny-base.OptionValues.{same_some as some_same}
 
 -- ---- troves by their names
 

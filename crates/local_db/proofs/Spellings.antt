@@ -5,17 +5,17 @@ use Rattle.std.proofs.lemmas.Bool.{false≢true}
 use Rattle.std.proofs.lemmas.List.Elements.{All-head, All-tail}
 use Rattle.cny_stream.specs.Item.{FitsItem, item_bytes}
 use Rattle.cny_stream.proofs.ItemLaws.{same_item, same_four}
-use Rattle.change_rel.specs.trove-parts.Items.{items_bytes, begins_with_tag}
-use Rattle.change_rel.proofs.trove-parts.ItemsLaws.{other_tag}
-use Rattle.change_rel.specs.trove-stream.declared.parts.TroveParts.{TroveParts}
-use Rattle.change_rel.specs.trove-stream.Trove.{IsTrove}
-use Rattle.change_rel.specs.trove-stream.declared.rel.RelParts.{RelParts}
-use Rattle.change_rel.specs.trove-stream.Rel.{IsRel}
-use Rattle.change_rel.specs.trove-stream.RelBytes.{IsStreamOf}
-use Rattle.change_rel.specs.file-stream.declared.encoding.Encoding.{Encoding}
-use Rattle.change_rel.specs.trove-parts.declared.id.TroveId.{TroveId}
-use Rattle.change_rel.specs.trove-parts.Id.{IsTroveId, id_bytes}
-use Rattle.change_rel.specs.trove-stream.Stream.{stream_bytes}
+use Rattle.trove_stream.specs.trove-parts.Items.{items_bytes, begins_with_tag}
+use Rattle.trove_stream.proofs.trove-parts.ItemsLaws.{other_tag}
+use Rattle.trove_stream.specs.declared.parts.TroveParts.{TroveParts}
+use Rattle.trove_stream.specs.Trove.{IsTrove}
+use Rattle.trove_stream.specs.declared.rel.RelParts.{RelParts}
+use Rattle.trove_stream.specs.Rel.{IsRel}
+use Rattle.trove_stream.specs.RelBytes.{IsStreamOf}
+use Rattle.trove_stream.specs.cny-stream.declared.encoding.Encoding.{Encoding}
+use Rattle.trove_stream.specs.trove-parts.declared.id.TroveId.{TroveId}
+use Rattle.trove_stream.specs.trove-parts.Id.{IsTroveId, id_bytes}
+use Rattle.trove_stream.specs.Stream.{stream_bytes}
 use Rattle.tree_scan.specs.declared.mark.Mark.{Mark}
 use Rattle.tree_scan.specs.declared.mark.Mark.TheVariants.{Nothing, Dir, File, Link}
 use Rattle.tree_scan.proofs.MarkLaws.{same_mark_means}
@@ -28,10 +28,10 @@ use Rattle.local_db.specs.Record.{Delta, came, was, turned, delta_tag, delta_val
 use Rattle.local_db.specs.Stores.{SameDatabase}
 use Rattle.local_db.proofs.Items.{shorter, all_fit, one_items}
 use Rattle.tree_journal.proofs.journal-log.Links.{fits_path, fits_target, same_two}
-use Rattle.change_rel.proofs.cny-base.Below.{equal_test as itself}
-use Rattle.change_rel.proofs.cny-base.ItemLaws.{same_front}
-use Rattle.change_rel.proofs.cny-base.IdFields.{same_str}
-use Rattle.change_rel.proofs.cny-base.OptionValues.{same_some as some_same}
+use Rattle.trove_stream.proofs.cny-base.Below.{equal_test as itself}
+use Rattle.trove_stream.proofs.cny-base.ItemLaws.{same_front}
+use Rattle.trove_stream.proofs.cny-base.IdFields.{same_str}
+use Rattle.trove_stream.proofs.cny-base.OptionValues.{same_some as some_same}
 
 -- ---- marks
 

@@ -2,13 +2,13 @@
 use Rattle.std.proofs.Common.{◌≡◌, ⊎_elim, true, false, not, []}
 use Rattle.std.proofs.lemmas.Bool.{cases_Bool}
 use Rattle.std.specs.FinMap.{get}
-use Rattle.change_rel.specs.cny-base.Reserved.{is_reserved, private_directory}
+use Rattle.trove_stream.specs.cny-base.Reserved.{is_reserved, private_directory}
 use Rattle.tree_journal.specs.tree-disk.Tree.{Name, Tree, same_name}
 use Rattle.tree_journal.specs.tree-disk.Clear.{is_within}
 use Rattle.tree_journal.specs.tree-disk.Disk.{DiskModel, IsDisk}
 use Rattle.tree_journal.specs.tree-disk.Confined.{Among, Confined, LeavesOnly}
 use Rattle.tree_journal.specs.tree-disk.Steps.{no_name}
-use Rattle.change_rel.proofs.cny-base.Bools.{or_left, or_right}
+use Rattle.trove_stream.proofs.cny-base.Bools.{or_left, or_right}
 use Rattle.tree_journal.proofs.tree-disk.Laws.{same_itself}
 use Rattle.tree_journal.proofs.tree-disk.ClearLaws.{or_cases}
 use Rattle.tree_journal.proofs.tree-disk.ConfinedLaws.{confined_start, false_from_not}

@@ -9,11 +9,11 @@ use Rattle.std.proofs.lemmas.Bool.{cases_Bool}
 use Rattle.std.proofs.lemmas.List.{length-take}
 use Rattle.std.proofs.lemmas.List.Elements.{All-cons, All-head, All-tail, All-take, All-map, All-contains, Contains-get_or}
 use Rattle.std.specs.FinMap.{get}
-use Rattle.change_rel.specs.cny-base.Reserved.{is_reserved}
-use Rattle.change_rel.specs.cny-base.declared.limits.TheConstants.{JOBS_LIMIT, STACK_LIMIT}
-use Rattle.change_rel.specs.cny-base.declared.node.Node.{Node}
-use Rattle.change_rel.specs.cny-base.declared.node.Node.TheVariants as node
-use Rattle.change_rel.specs.trove-stream.declared.parts.TroveParts.{TroveParts}
+use Rattle.trove_stream.specs.cny-base.Reserved.{is_reserved}
+use Rattle.trove_stream.specs.cny-base.declared.limits.TheConstants.{JOBS_LIMIT, STACK_LIMIT}
+use Rattle.trove_stream.specs.cny-base.declared.node.Node.{Node}
+use Rattle.trove_stream.specs.cny-base.declared.node.Node.TheVariants as node
+use Rattle.trove_stream.specs.declared.parts.TroveParts.{TroveParts}
 use Rattle.tree_journal.specs.tree-disk.Tree.{Name, same_name, WellFormed}
 use Rattle.tree_journal.specs.journal-log.declared.put.Put.{Put}
 use Rattle.tree_journal.specs.journal-log.WriteSet.{Rises}

@@ -4,19 +4,19 @@ use Rattle.std.specs.Int.{w32, to_be_bytes}
 use Rattle.std.proofs.lemmas.List.{append_cancel_left}
 use Rattle.std.proofs.lemmas.List.Concat.{flat_map-append}
 use Rattle.std.proofs.lemmas.List.Elements.{All-nil, All-head, All-tail, All-push}
-use Rattle.change_rel.specs.cny-base.Below.{begins_with}
-use Rattle.change_rel.proofs.cny-base.Below.{begun}
+use Rattle.trove_stream.specs.cny-base.Below.{begins_with}
+use Rattle.trove_stream.proofs.cny-base.Below.{begun}
 use Rattle.cny_stream.specs.Item.{item_bytes}
 use Rattle.cny_stream.proofs.ItemLaws.{same_item, same_four}
-use Rattle.change_rel.specs.trove-parts.Items.{items_bytes}
-use Rattle.change_rel.specs.trove-stream.declared.parts.TroveParts.{TroveParts}
-use Rattle.change_rel.specs.trove-stream.Trove.{IsTrove}
+use Rattle.trove_stream.specs.trove-parts.Items.{items_bytes}
+use Rattle.trove_stream.specs.declared.parts.TroveParts.{TroveParts}
+use Rattle.trove_stream.specs.Trove.{IsTrove}
 use Rattle.local_db.specs.declared.format.Format.{Format}
 use Rattle.local_db.specs.declared.format.Format.TheVariants.{One, Two}
 use Rattle.local_db.specs.Formats.{TroveCanTell, database_magic, encoding_of, trove_text}
 use Rattle.local_db.specs.Stores.{SameDatabase}
 use Rattle.local_db.specs.Reading.{FitsTrove, IsTroveAt, IsNoTroveAt, AreTrovesTo, IsDatabaseText, end_bytes}
-use Rattle.change_rel.proofs.trove-stream.Distinct.{TrovesDiffer}
+use Rattle.trove_stream.proofs.Distinct.{TrovesDiffer}
 
 abbrev pub item_of : Format → TroveParts → List ℕ
 item_of f t = item_bytes 0x50 (trove_text f t)

@@ -2,8 +2,8 @@
 use Rattle.std.proofs.Common.{◌≡◌, ◌⊎◌, ⊎_elim, inl, inr, Bool, true, false, List, [], ◌∷◌, length, refl, sym, subst, arith}
 use Rattle.std.specs.Prelude.{◌↔◌}
 use Rattle.std.proofs.lemmas.List.Elements.{All-nil}
-use Rattle.change_rel.specs.cny-base.Reserved.{private_directory}
-use Rattle.change_rel.specs.trove-stream.declared.parts.TroveParts.{TroveParts}
+use Rattle.trove_stream.specs.cny-base.Reserved.{private_directory}
+use Rattle.trove_stream.specs.declared.parts.TroveParts.{TroveParts}
 use Rattle.tree_journal.specs.tree-disk.Tree.{Name, Tree}
 use Rattle.tree_journal.specs.tree-disk.Disk.{IsCrashImage}
 use Rattle.tree_journal.specs.journal-log.declared.put.Put.{Put}

@@ -1,8 +1,8 @@
 -- A job that nothing was edited after can be taken back.
 use Rattle.std.proofs.Common.{◌≡◌, ◌≢◌, IsTrue, true, get_or, Option, Some, None, is_some, refl, sym, ◌∙◌, ap, subst}
 use Rattle.std.specs.FinMap.{get}
-use Rattle.change_rel.specs.cny-base.Path.{parent}
-use Rattle.change_rel.specs.cny-base.declared.node.Node.{Node}
+use Rattle.trove_stream.specs.cny-base.Path.{parent}
+use Rattle.trove_stream.specs.cny-base.declared.node.Node.{Node}
 use Rattle.tree_journal.specs.tree-disk.Tree.{Name, Tree, is_dir, WellFormed}
 use Rattle.tree_journal.specs.journal-log.Targets.{with_targets}
 use Rattle.tree_scan.specs.Marks.{fingerprint}

@@ -7,7 +7,7 @@ use Rattle.tree_journal.specs.journal-log.declared.put.Put.{Put}
 use Rattle.tree_journal.specs.journal-log.WriteSet.{Rises}
 use Rattle.tree_journal.specs.journal-log.Targets.{node_of, with_targets}
 use Rattle.tree_journal.proofs.WriteSets.{first_not_later, with_targets_outside}
-use Rattle.change_rel.proofs.cny-base.Lists.{contains_cases, nothing_in}
+use Rattle.trove_stream.proofs.cny-base.Lists.{contains_cases, nothing_in}
 
 pub not_both : {A : Type 0} (b : Bool) → b ≡ true → b ≡ false → A
 not_both b is isnt = absurd (cc (is, isnt))

@@ -3,10 +3,10 @@ use Rattle.std.proofs.Common.{◌≡◌, ℕ, ◌+◌, ◌<◌, ◌≤◌, List,
 use Rattle.std.proofs.lemmas.List.{flat_map_more, take_all, take_more}
 use Rattle.std.proofs.lemmas.List.Elements.{All-more}
 use Rattle.cny_stream.specs.Item.{item_bytes}
-use Rattle.change_rel.specs.trove-parts.Items.{items_bytes}
-use Rattle.change_rel.specs.trove-stream.declared.parts.TroveParts.{TroveParts}
-use Rattle.change_rel.specs.trove-stream.Stream.{full_trove_bytes}
-use Rattle.change_rel.specs.trove-stream.Trove.{IsTrove}
+use Rattle.trove_stream.specs.trove-parts.Items.{items_bytes}
+use Rattle.trove_stream.specs.declared.parts.TroveParts.{TroveParts}
+use Rattle.trove_stream.specs.Stream.{full_trove_bytes}
+use Rattle.trove_stream.specs.Trove.{IsTrove}
 
 abbrev pub item_of : TroveParts → List ℕ
 item_of t = item_bytes 0x50 (full_trove_bytes t)

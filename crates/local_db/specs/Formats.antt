@@ -1,21 +1,21 @@
 -- The two formats of a root tree, and the bytes of the database file.
 use Rattle.std.specs.Prelude.{◌≡◌, ◌⊎◌, ℕ, ◌+◌, ◌<◌, ◌≤◌, Bool, true, IsTrue, List, [], ◌++◌, length, codes, All}
 use Rattle.std.specs.Int.{w32, to_be_bytes}
-use Rattle.change_rel.specs.cny-base.declared.limits.TheConstants.{DATABASE_LIMIT, FORMAT_1_DATABASE_LIMIT, JOBS_LIMIT, STACK_LIMIT}
+use Rattle.trove_stream.specs.cny-base.declared.limits.TheConstants.{DATABASE_LIMIT, FORMAT_1_DATABASE_LIMIT, JOBS_LIMIT, STACK_LIMIT}
 use Rattle.cny_stream.specs.Item.{item_bytes}
-use Rattle.change_rel.specs.file-stream.declared.encoding.Encoding.{Encoding}
-use Rattle.change_rel.specs.file-stream.declared.encoding.Encoding.TheVariants.{Compact, Explicit}
-use Rattle.change_rel.specs.file-stream.declared.record.FileRec.{FileRec}
-use Rattle.change_rel.specs.file-stream.declared.record.FileRec.TheVariants as rec
-use Rattle.change_rel.specs.file-stream.Owner.{is_root}
+use Rattle.trove_stream.specs.cny-stream.declared.encoding.Encoding.{Encoding}
+use Rattle.trove_stream.specs.cny-stream.declared.encoding.Encoding.TheVariants.{Compact, Explicit}
+use Rattle.trove_stream.specs.cny-stream.declared.record.FileRec.{FileRec}
+use Rattle.trove_stream.specs.cny-stream.declared.record.FileRec.TheVariants as rec
+use Rattle.trove_stream.specs.cny-stream.Owner.{is_root}
 use Rattle.local_db.specs.declared.format.Format.{Format}
 use Rattle.local_db.specs.declared.format.Format.TheVariants.{One, Two}
-use Rattle.change_rel.specs.trove-parts.declared.files.FileAt.{FileAt}
-use Rattle.change_rel.specs.trove-parts.Items.{items_bytes}
-use Rattle.change_rel.specs.trove-stream.declared.parts.TroveParts.{TroveParts}
-use Rattle.change_rel.specs.trove-stream.Stream.{stream_bytes}
-use Rattle.change_rel.specs.trove-stream.declared.rel.RelParts.{RelParts}
-use Rattle.change_rel.specs.trove-stream.RelBytes.{rel_stream_bytes}
+use Rattle.trove_stream.specs.trove-parts.declared.files.FileAt.{FileAt}
+use Rattle.trove_stream.specs.trove-parts.Items.{items_bytes}
+use Rattle.trove_stream.specs.declared.parts.TroveParts.{TroveParts}
+use Rattle.trove_stream.specs.Stream.{stream_bytes}
+use Rattle.trove_stream.specs.declared.rel.RelParts.{RelParts}
+use Rattle.trove_stream.specs.RelBytes.{rel_stream_bytes}
 
 abbrev pub database_magic : Format → List ℕ
 database_magic One = codes "CNYDB01\n"

@@ -1,14 +1,14 @@
 -- Lists of installed troves.
 use Rattle.std.specs.Prelude.{◌≡◌, Bool, ◌&&◌, ◌||◌, not, IsTrue, List, [], ◌∷◌, Option, Some, None, if◌then◌else◌, All}
 use Rattle.std.specs.List.{AllPairs}
-use Rattle.change_rel.specs.trove-stream.Installed.{IsRising}
+use Rattle.trove_stream.specs.Installed.{IsRising}
 use Rattle.std.specs.Str.{bytes_eq}
-use Rattle.change_rel.specs.file-stream.declared.record.FileRec.{FileRec}
-use Rattle.change_rel.specs.file-stream.Record.{is_dir}
-use Rattle.change_rel.specs.trove-parts.declared.files.FileAt.{FileAt}
-use Rattle.change_rel.specs.trove-stream.declared.parts.TroveParts.{TroveParts}
-use Rattle.change_rel.specs.trove-stream.Trove.{IsTrove}
-use Rattle.change_rel.specs.trove-stream.Forbidden.{first_forbidden}
+use Rattle.trove_stream.specs.cny-stream.declared.record.FileRec.{FileRec}
+use Rattle.trove_stream.specs.cny-stream.Record.{is_dir}
+use Rattle.trove_stream.specs.trove-parts.declared.files.FileAt.{FileAt}
+use Rattle.trove_stream.specs.declared.parts.TroveParts.{TroveParts}
+use Rattle.trove_stream.specs.Trove.{IsTrove}
+use Rattle.trove_stream.specs.Forbidden.{first_forbidden}
 use Rattle.tree_journal.specs.tree-disk.Tree.{Name, same_name}
 use Rattle.tree_scan.specs.declared.mark.Mark.{Mark}
 use Rattle.tree_scan.specs.Marks.{fingerprint_of_record}

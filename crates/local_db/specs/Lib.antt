@@ -13,12 +13,11 @@ pub mod Stores
 pub mod Stage
 pub mod Steps
 pub mod RecordText
-pub use Rattle.change_rel.specs.cny-base
+pub use Rattle.trove_stream.specs.cny-base
 pub use Rattle.cny_stream.specs as cny-stream
 pub use Rattle.content_store.specs as content-store
-pub use Rattle.change_rel.specs.file-stream
 pub use Rattle.tree_journal.specs.journal-log
 pub use Rattle.tree_journal.specs.tree-disk
 pub use Rattle.tree_journal.specs as tree-journal
-pub use Rattle.change_rel.specs.trove-parts
-pub use Rattle.change_rel.specs.trove-stream
+pub use Rattle.trove_stream.specs.trove-parts
+pub use Rattle.trove_stream.specs as trove-stream

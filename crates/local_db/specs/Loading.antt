@@ -1,11 +1,11 @@
 -- What loading a database answers.
 use Rattle.std.specs.Prelude.{◌≡◌, ℕ, Bool, IsTrue, nat_le, List, Option, Some, None, length, if◌then◌else◌}
-use Rattle.change_rel.specs.cny-base.declared.limits.TheConstants.{DATABASE_LIMIT}
-use Rattle.change_rel.specs.cny-base.declared.node.Node.{Node}
-use Rattle.change_rel.specs.cny-base.declared.node.Node.TheVariants as node
-use Rattle.change_rel.specs.cny-base.declared.stop.Stop.{Stop}
-use Rattle.change_rel.specs.cny-base.declared.stop.Stop.TheVariants as stop
-use Rattle.change_rel.specs.trove-stream.declared.parts.TroveParts.{TroveParts}
+use Rattle.trove_stream.specs.cny-base.declared.limits.TheConstants.{DATABASE_LIMIT}
+use Rattle.trove_stream.specs.cny-base.declared.node.Node.{Node}
+use Rattle.trove_stream.specs.cny-base.declared.node.Node.TheVariants as node
+use Rattle.trove_stream.specs.cny-base.declared.stop.Stop.{Stop}
+use Rattle.trove_stream.specs.cny-base.declared.stop.Stop.TheVariants as stop
+use Rattle.trove_stream.specs.declared.parts.TroveParts.{TroveParts}
 use Rattle.tree_journal.specs.tree-disk.declared.disk.Look.{Look}
 use Rattle.tree_journal.specs.tree-disk.declared.disk.Look.TheVariants as look
 use Rattle.tree_journal.specs.tree-disk.Tree.{Name, Tree}

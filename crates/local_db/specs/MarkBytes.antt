@@ -1,8 +1,8 @@
 -- The bytes of fingerprints in rollback records.
 use Rattle.std.specs.Prelude.{◌≡◌, ℕ, ◌<◌, ◌≤◌, ◌^◌, Bool, false, IsTrue, List, [], ◌∷◌, ◌++◌, length, Option, Some, None, if◌then◌else◌}
 use Rattle.std.specs.Int.{w16, w32, to_be_bytes}
-use Rattle.change_rel.specs.cny-base.StrField.{str}
-use Rattle.change_rel.specs.cny-base.Target.{is_target}
+use Rattle.trove_stream.specs.cny-base.StrField.{str}
+use Rattle.trove_stream.specs.cny-base.Target.{is_target}
 use Rattle.tree_scan.specs.declared.mark.Mark.{Mark}
 use Rattle.tree_scan.specs.declared.mark.Mark.TheVariants.{Nothing, Dir, File, Link}
 use Rattle.tree_scan.specs.Marks.{same_mark}

@@ -1,8 +1,8 @@
 -- The names of the files in the private directory of a root tree.
 use Rattle.std.specs.Prelude.{ℕ, Bool, false, ◌||◌, not, List, [], ◌∷◌, ◌++◌, codes}
 use Rattle.std.specs.Fmt as fmt
-use Rattle.change_rel.specs.cny-base.Path.{join}
-use Rattle.change_rel.specs.cny-base.Reserved.{private_directory, is_reserved}
+use Rattle.trove_stream.specs.cny-base.Path.{join}
+use Rattle.trove_stream.specs.cny-base.Reserved.{private_directory, is_reserved}
 use Rattle.tree_journal.specs.tree-disk.Tree.{Name, same_name}
 use Rattle.tree_journal.specs.tree-disk.Clear.{is_within}
 use Rattle.local_db.specs.SystemState.{StackItem, SystemState}

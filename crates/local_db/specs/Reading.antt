@@ -2,9 +2,9 @@
 use Rattle.std.specs.Prelude.{◌≡◌, ℕ, ◌<◌, ◌≤◌, ◌^◌, List, [], ◌++◌, length, drop, All}
 use Rattle.std.specs.Int.{w32, to_be_bytes}
 use Rattle.cny_stream.specs.Item.{FitsItem, item_bytes}
-use Rattle.change_rel.specs.trove-parts.Items.{items_bytes}
-use Rattle.change_rel.specs.trove-stream.declared.parts.TroveParts.{TroveParts}
-use Rattle.change_rel.specs.trove-stream.Trove.{IsTrove}
+use Rattle.trove_stream.specs.trove-parts.Items.{items_bytes}
+use Rattle.trove_stream.specs.declared.parts.TroveParts.{TroveParts}
+use Rattle.trove_stream.specs.Trove.{IsTrove}
 use Rattle.local_db.specs.declared.format.Format.{Format}
 use Rattle.local_db.specs.Formats.{TroveCanTell, trove_text, database_magic, database_bytes}
 

@@ -6,24 +6,24 @@ use Rattle.std.specs.Ordering.{nat_cmp}
 use Rattle.std.specs.Cmp.Lexicographic.{slice_cmp}
 use Rattle.std.specs.FinMap.{get}
 use Rattle.std.specs.declared.cmp.Ordering.{Ordering}
-use Rattle.change_rel.specs.cny-base.Path.{is_path}
-use Rattle.change_rel.specs.cny-base.StrField.{str}
-use Rattle.change_rel.specs.cny-base.declared.limits.TheConstants.{JOBS_LIMIT}
+use Rattle.trove_stream.specs.cny-base.Path.{is_path}
+use Rattle.trove_stream.specs.cny-base.StrField.{str}
+use Rattle.trove_stream.specs.cny-base.declared.limits.TheConstants.{JOBS_LIMIT}
 use Rattle.cny_stream.specs.Item.{FitsItem, item_bytes}
-use Rattle.change_rel.specs.trove-parts.declared.id.TroveId.{TroveId}
-use Rattle.change_rel.specs.trove-parts.Id.{IsTroveId, id_bytes}
-use Rattle.change_rel.specs.trove-parts.Items.{items_bytes}
-use Rattle.change_rel.specs.trove-stream.declared.parts.TroveParts.{TroveParts}
-use Rattle.change_rel.specs.trove-stream.Trove.{IsTrove}
-use Rattle.change_rel.specs.trove-stream.declared.rel.RelParts.{RelParts}
-use Rattle.change_rel.specs.trove-stream.Rel.{IsRel}
-use Rattle.change_rel.specs.Leads.{Leads}
+use Rattle.trove_stream.specs.trove-parts.declared.id.TroveId.{TroveId}
+use Rattle.trove_stream.specs.trove-parts.Id.{IsTroveId, id_bytes}
+use Rattle.trove_stream.specs.trove-parts.Items.{items_bytes}
+use Rattle.trove_stream.specs.declared.parts.TroveParts.{TroveParts}
+use Rattle.trove_stream.specs.Trove.{IsTrove}
+use Rattle.trove_stream.specs.declared.rel.RelParts.{RelParts}
+use Rattle.trove_stream.specs.Rel.{IsRel}
+use Rattle.trove_stream.specs.Leads.{Leads}
 use Rattle.tree_journal.specs.tree-disk.Tree.{Name, same_name}
 use Rattle.tree_scan.specs.declared.mark.Mark.{Mark}
 use Rattle.tree_scan.specs.declared.mark.Mark.TheVariants.{Nothing}
 use Rattle.tree_scan.specs.Marks.{fingerprint}
 use Rattle.local_db.specs.MarkBytes.{IsMark, told_bytes}
-use Rattle.change_rel.specs.trove-stream.Installed.{trove_of}
+use Rattle.trove_stream.specs.Installed.{trove_of}
 use Rattle.local_db.specs.Installed.{recorded, IsInstalled}
 use Rattle.local_db.specs.declared.format.Format.{Format}
 use Rattle.local_db.specs.Formats.{record_magic, trove_text, rel_text, CanTell, TroveCanTell, Fits}

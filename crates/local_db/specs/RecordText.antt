@@ -6,10 +6,10 @@ use Rattle.std.specs.List.Sorted.{IsStrictlySortedBy}
 use Rattle.std.specs.Ordering.{nat_cmp}
 use Rattle.std.specs.Cmp.Lexicographic.{slice_cmp}
 use Rattle.std.specs.declared.cmp.Ordering.{Ordering}
-use Rattle.change_rel.specs.cny-base.Path.{is_path}
-use Rattle.change_rel.specs.cny-base.StrField.{str}
+use Rattle.trove_stream.specs.cny-base.Path.{is_path}
+use Rattle.trove_stream.specs.cny-base.StrField.{str}
 use Rattle.cny_stream.specs.Item.{FitsItem, item_bytes}
-use Rattle.change_rel.specs.trove-parts.Items.{items_bytes}
+use Rattle.trove_stream.specs.trove-parts.Items.{items_bytes}
 use Rattle.local_db.specs.declared.format.Format.{Format}
 use Rattle.local_db.specs.Formats.{record_magic}
 use Rattle.local_db.specs.MarkBytes.{IsMark, mark_bytes}

@@ -3,11 +3,11 @@ use Rattle.std.specs.Prelude.{◌≡◌, Bool, true, IsTrue, List, Some, None, A
 use Rattle.std.specs.BTreeMap.{BTreeMap, get}
 use Rattle.std.specs.Cmp.Lexicographic.{slice_cmp}
 use Rattle.std.specs.Ordering.{nat_cmp}
-use Rattle.change_rel.specs.file-stream.Record.{is_dir}
-use Rattle.change_rel.specs.trove-parts.declared.files.FileAt.{FileAt}
+use Rattle.trove_stream.specs.cny-stream.Record.{is_dir}
+use Rattle.trove_stream.specs.trove-parts.declared.files.FileAt.{FileAt}
 use Rattle.tree_journal.specs.tree-disk.Tree.{Name}
 use Rattle.local_db.specs.Installed.{are_apart}
-pub use Rattle.change_rel.specs.trove-stream.FilesOf.{files_of}
+pub use Rattle.trove_stream.specs.FilesOf.{files_of}
 
 -- for each path whether a directory is recorded there
 abbrev pub Kinds : Type 0

@@ -1,12 +1,12 @@
 -- What a job and a rollback make of a system.
 use Rattle.std.specs.Prelude.{◌≡◌, ◌≢◌, ◌⊎◌, ℕ, ◌+◌, ◌-◌, ◌≤◌, Bool, nat_lt, ◌||◌, ◌&&◌, true, false, IsTrue, List, [], ◌∷◌, ◌++◌, map, take, Option, Some, None, All, Contains}
 use Rattle.std.specs.FinMap.{get}
-use Rattle.change_rel.specs.cny-base.Path.{is_path, parent}
-use Rattle.change_rel.specs.cny-base.declared.limits.TheConstants.{JOBS_LIMIT, STACK_LIMIT}
-use Rattle.change_rel.specs.cny-base.Reserved.{private_directory, is_reserved}
-use Rattle.change_rel.specs.cny-base.declared.node.Node.{Node}
-use Rattle.change_rel.specs.cny-base.declared.node.Node.TheVariants as node
-use Rattle.change_rel.specs.trove-stream.declared.parts.TroveParts.{TroveParts}
+use Rattle.trove_stream.specs.cny-base.Path.{is_path, parent}
+use Rattle.trove_stream.specs.cny-base.declared.limits.TheConstants.{JOBS_LIMIT, STACK_LIMIT}
+use Rattle.trove_stream.specs.cny-base.Reserved.{private_directory, is_reserved}
+use Rattle.trove_stream.specs.cny-base.declared.node.Node.{Node}
+use Rattle.trove_stream.specs.cny-base.declared.node.Node.TheVariants as node
+use Rattle.trove_stream.specs.declared.parts.TroveParts.{TroveParts}
 use Rattle.tree_journal.specs.tree-disk.Tree.{Name, Tree, same_name, is_dir, may_stand, WellFormed, AgreesOutside}
 use Rattle.tree_journal.specs.journal-log.declared.put.Want.{Want}
 use Rattle.tree_journal.specs.journal-log.declared.put.Want.TheVariants as want

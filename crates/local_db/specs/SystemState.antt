@@ -4,12 +4,12 @@ use Rattle.std.specs.List.Sorted.{IsStrictlySortedBy}
 use Rattle.std.specs.Ordering.{nat_cmp}
 use Rattle.std.specs.Cmp.Lexicographic.{slice_cmp}
 use Rattle.std.specs.FinMap.{get}
-use Rattle.change_rel.specs.cny-base.Path.{is_path}
-use Rattle.change_rel.specs.cny-base.Reserved.{is_reserved, is_pinned}
-use Rattle.change_rel.specs.cny-base.declared.limits.TheConstants.{CONTENT_LIMIT, JOBS_LIMIT, STACK_LIMIT}
-use Rattle.change_rel.specs.cny-base.declared.node.Node.{Node}
-use Rattle.change_rel.specs.cny-base.declared.node.Node.TheVariants as node
-use Rattle.change_rel.specs.trove-stream.declared.parts.TroveParts.{TroveParts}
+use Rattle.trove_stream.specs.cny-base.Path.{is_path}
+use Rattle.trove_stream.specs.cny-base.Reserved.{is_reserved, is_pinned}
+use Rattle.trove_stream.specs.cny-base.declared.limits.TheConstants.{CONTENT_LIMIT, JOBS_LIMIT, STACK_LIMIT}
+use Rattle.trove_stream.specs.cny-base.declared.node.Node.{Node}
+use Rattle.trove_stream.specs.cny-base.declared.node.Node.TheVariants as node
+use Rattle.trove_stream.specs.declared.parts.TroveParts.{TroveParts}
 use Rattle.tree_journal.specs.tree-disk.Tree.{Name, Tree, same_name, WellFormed, AgreesOutside}
 use Rattle.tree_scan.specs.Marks.{fingerprint}
 use Rattle.local_db.specs.MarkBytes.{IsMark}

@@ -1,10 +1,10 @@
 -- Why a database isn't written.
 use Rattle.std.specs.Prelude.{◌≡◌, ℕ, ◌<◌}
-use Rattle.change_rel.specs.cny-base.declared.limits.TheConstants.{DATABASE_LIMIT}
-use Rattle.change_rel.specs.cny-base.declared.refusal.Fault.{Fault}
-use Rattle.change_rel.specs.cny-base.declared.refusal.Fault.TheVariants.{Refused, Memory}
-use Rattle.change_rel.specs.cny-base.declared.refusal.Refusal.TheVariants.{TooLarge}
-use Rattle.change_rel.specs.cny-base.declared.refusal.What.TheVariants.{Database}
+use Rattle.trove_stream.specs.cny-base.declared.limits.TheConstants.{DATABASE_LIMIT}
+use Rattle.trove_stream.specs.cny-base.declared.refusal.Fault.{Fault}
+use Rattle.trove_stream.specs.cny-base.declared.refusal.Fault.TheVariants.{Refused, Memory}
+use Rattle.trove_stream.specs.cny-base.declared.refusal.Refusal.TheVariants.{TooLarge}
+use Rattle.trove_stream.specs.cny-base.declared.refusal.What.TheVariants.{Database}
 
 -- it has so many bytes, which are more than a database has at most, or no memory was left
 abbrev pub IsTooLargeOrMemory : ℕ → Fault → Type 0

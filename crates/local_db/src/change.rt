@@ -1,9 +1,9 @@
 //! The paths that a job changed, by their fingerprints.
 ghost use Rattle.std.specs.Prelude.{◌≡◌};
 
-use change_rel::cny_base::Path;
 use std::marker::Model;
 use tree_scan::Mark;
+use trove_stream::cny_base::Path;
 
 /// A path that a job changed, with the fingerprints of what stood there before and after it.
 pub struct PathChange {

@@ -1,6 +1,6 @@
 //! What a database tells.
-use change_rel::cny_base::{Copies, OutOfMemory};
-use change_rel::trove_stream::Installed;
+use trove_stream::Installed;
+use trove_stream::cny_base::{Copies, OutOfMemory};
 
 /// What the database of a root tells: the installed troves, and the numbers of the oldest and of the newest job of its stack.
 /// Where there is no job both are 0.

@@ -1,8 +1,8 @@
 //! Laws of stored systems.
 ghost use Rattle.std.specs.Prelude.{◌≡◌, ◌⊎◌, ◌↔◌, ℕ, false, true, Bool, List, None, length};
 ghost use Rattle.std.specs.FinMap.{get};
-ghost use Rattle.change_rel.specs.cny-base.Reserved.{private_directory, is_reserved};
-ghost use Rattle.change_rel.specs.trove-stream.declared.parts.TroveParts.{TroveParts};
+ghost use Rattle.trove_stream.specs.cny-base.Reserved.{private_directory, is_reserved};
+ghost use Rattle.trove_stream.specs.declared.parts.TroveParts.{TroveParts};
 ghost use Rattle.tree_journal.specs.tree-disk.Tree.{Name, Tree, WellFormed};
 ghost use Rattle.tree_journal.specs.tree-disk.Disk.{IsCrashImage};
 ghost use Rattle.tree_journal.specs.Recovery.{is_committed, RecoversTo};
@@ -14,9 +14,8 @@ ghost use Rattle.local_db.specs.Record.{entries_of, PassesChecks};
 ghost use Rattle.local_db.specs.Formats.{database_bytes};
 ghost use Rattle.local_db.specs.Stores.{HoldsItem, IsDatabase, SameDatabase, StoresIn, StoresSystem, RecoversToSystem, Alike};
 
-use change_rel::one_result;
-use change_rel::trove_parts::distinct_ids;
-use change_rel::trove_stream::{distinct_rels, distinct_troves};
+use trove_stream::trove_parts::distinct_ids;
+use trove_stream::{distinct_rels, distinct_troves, one_result};
 
 /// Two systems that one tree stores agree in all on which an answer may depend.
 pub fn one_system()

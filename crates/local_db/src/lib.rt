@@ -19,8 +19,6 @@ mod steps;
 mod writing;
 
 pub use change::PathChange;
-pub use change_rel::trove_stream::Installed;
-pub use change_rel::{cny_base, file_stream, trove_parts, trove_stream};
 pub use content_store;
 pub use db::Db;
 pub use format::Format;
@@ -35,4 +33,6 @@ pub use steps::{
     migrated_system, prepared_system, puttable_writes, system_after_job, system_after_rollback,
 };
 pub use tree_journal::{journal_log, make_dir, tree_disk};
+pub use trove_stream;
+pub use trove_stream::{Installed, cny_base, cny_stream, trove_parts};
 pub use writing::{encode, encode_within, put_value};

@@ -1,7 +1,7 @@
 //! The database of a root, as its tree holds it.
 ghost use Rattle.std.specs.Prelude.{◌≡◌, ◌≤◌, [], IfErr, IfOk, IsTrue, Ok};
 ghost use Rattle.std.specs.FinMap.{get};
-ghost use Rattle.change_rel.specs.cny-base.Count.{Rose};
+ghost use Rattle.trove_stream.specs.cny-base.Count.{Rose};
 ghost use Rattle.tree_journal.specs.tree-disk.Disk.{Reads};
 ghost use Rattle.tree_journal.specs.tree-disk.Rows.{bytes_at, is_file_at};
 ghost use Rattle.tree_journal.specs.tree-disk.Steps.{IsDiskStop, Tests};
@@ -13,10 +13,10 @@ use crate::db::Db;
 use crate::laws::distinct_databases;
 use crate::names::database_path;
 use crate::reading::decode;
-use change_rel::cny_base::{Bytes, DATABASE_LIMIT, Path, Stop, TextFault};
-use change_rel::trove_stream::Installed;
 use std::alloc::Global;
 use tree_journal::tree_disk::{Look, TreeDisk, steps};
+use trove_stream::Installed;
+use trove_stream::cny_base::{Bytes, DATABASE_LIMIT, Path, Stop, TextFault};
 
 /// What stands at the name of the database.
 #[derive(Drop)]

@@ -1,12 +1,12 @@
 //! The names of the files.
 ghost use Rattle.std.specs.Prelude.{◌≡◌, IfOk, IsTrue, string_bytes};
-ghost use Rattle.change_rel.specs.cny-base.Path.{is_path};
-ghost use Rattle.change_rel.specs.cny-base.Reserved.{private_directory};
+ghost use Rattle.trove_stream.specs.cny-base.Path.{is_path};
+ghost use Rattle.trove_stream.specs.cny-base.Reserved.{private_directory};
 ghost use Rattle.local_db.specs.Names as spec;
 
-use change_rel::cny_base::{OutOfMemory, Path, TextFault};
 use itoa::Buffer;
 use std::alloc::{AllocError, Global};
+use trove_stream::cny_base::{OutOfMemory, Path, TextFault};
 
 // The path of a text that is one.
 fn path_of(alloc: Global, text: &str) -> Result<Path, OutOfMemory>

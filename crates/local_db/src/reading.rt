@@ -1,11 +1,11 @@
 //! The database that a file spells.
 ghost use Rattle.std.specs.Prelude.{[], ◌≡◌, ◌↔◌, ◌<◌, ◌≤◌, ℕ, List, All, None, true, IsTrue, length, drop, IfOk, IfSome, IfNone, IsErrOf, OnOk};
-ghost use Rattle.change_rel.specs.cny-base.Below.{begins_with};
+ghost use Rattle.trove_stream.specs.cny-base.Below.{begins_with};
 ghost use Rattle.cny_stream.specs.Item.{item_bytes};
-ghost use Rattle.change_rel.specs.trove-parts.declared.files.FileAt.{FileAt};
-ghost use Rattle.change_rel.specs.trove-stream.declared.parts.TroveParts.{TroveParts};
-ghost use Rattle.change_rel.specs.trove-stream.Forbidden.{first_forbidden};
-ghost use Rattle.change_rel.specs.trove-stream.Trove.{IsTrove};
+ghost use Rattle.trove_stream.specs.trove-parts.declared.files.FileAt.{FileAt};
+ghost use Rattle.trove_stream.specs.declared.parts.TroveParts.{TroveParts};
+ghost use Rattle.trove_stream.specs.Forbidden.{first_forbidden};
+ghost use Rattle.trove_stream.specs.Trove.{IsTrove};
 ghost use Rattle.local_db.specs.Formats.{CanTell, database_magic, limit, AreEnds};
 ghost use Rattle.local_db.specs.Formats as formats;
 ghost use Rattle.local_db.specs.declared.format.Format as declared;
@@ -20,14 +20,12 @@ use crate::format::Format;
 use crate::laws::distinct_databases;
 use crate::sharing::share_dirs_alone;
 use crate::writing::{END_ITEM, MAGIC_1, MAGIC_2, NUMBERS, TROVE};
-use change_rel::cny_base::{DATABASE_LIMIT, FORMAT_1_DATABASE_LIMIT, STACK_LIMIT, TextFault};
-use change_rel::file_stream::FileRec;
-use change_rel::trove_parts::FileAt;
-use change_rel::trove_stream::{
-    Installed, Trove, check, decode as decode_trove, decode_full, distinct_troves,
-};
 use cny_stream::next_item;
 use std::alloc::Global;
+use trove_stream::cny_base::{DATABASE_LIMIT, FORMAT_1_DATABASE_LIMIT, STACK_LIMIT, TextFault};
+use trove_stream::cny_stream::FileRec;
+use trove_stream::trove_parts::FileAt;
+use trove_stream::{Installed, Trove, check, decode as decode_trove, decode_full, distinct_troves};
 
 // Whether root owns it, or it is a link, which has no owner.
 fn is_roots(rec: &FileRec) -> bool

@@ -2,10 +2,10 @@
 ghost use Rattle.std.specs.Prelude.{◌≡◌};
 ghost use Rattle.local_db.specs.RecordText as spec;
 
-use change_rel::cny_base::{Copies, ListOf, Name, OutOfMemory, Path};
-use change_rel::trove_parts::TroveId;
-use change_rel::trove_stream::{RelTrove, Trove};
 use tree_scan::Mark;
+use trove_stream::cny_base::{Copies, ListOf, Name, OutOfMemory, Path};
+use trove_stream::trove_parts::TroveId;
+use trove_stream::{RelTrove, Trove};
 
 /// How the trove of one name is taken back.
 pub enum Delta {

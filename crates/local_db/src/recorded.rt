@@ -4,9 +4,9 @@ ghost use Rattle.tree_scan.specs.declared.mark.Mark.TheVariants as mark;
 ghost use Rattle.tree_scan.specs.Marks.{fingerprint_of_record};
 ghost use Rattle.local_db.specs.MarkBytes.{IsMark};
 
-use change_rel::cny_base::{Copies, Mode, OutOfMemory};
-use change_rel::file_stream::FileRec;
 use tree_scan::Mark;
+use trove_stream::cny_base::{Copies, Mode, OutOfMemory};
+use trove_stream::cny_stream::FileRec;
 
 // The fingerprint of a file.
 fn file_mark(mode: Mode, size: u32, name: &[u8; 20]) -> Mark

@@ -1,16 +1,16 @@
 //! Whether troves share no path but as a directory.
 ghost use Rattle.std.specs.Prelude.{◌↔◌, ◌++◌, ◌∷◌, [], List, IfOk, IsTrue};
 ghost use Rattle.std.specs.List.{AllPairs};
-ghost use Rattle.change_rel.specs.trove-parts.declared.files.FileAt.{FileAt};
-ghost use Rattle.change_rel.specs.trove-parts.Files.{AreFiles};
+ghost use Rattle.trove_stream.specs.trove-parts.declared.files.FileAt.{FileAt};
+ghost use Rattle.trove_stream.specs.trove-parts.Files.{AreFiles};
 ghost use Rattle.local_db.specs.Installed.{SharesDirsAlone};
 ghost use Rattle.local_db.specs.Sharing.{AreApart, AreNoted, IsApart};
 
-use change_rel::cny_base::{Copies, OutOfMemory, Path};
-use change_rel::trove_parts::FileAt;
-use change_rel::trove_stream::Trove;
 use std::alloc::Global;
 use std::collections::BTreeMap;
+use trove_stream::Trove;
+use trove_stream::cny_base::{Copies, OutOfMemory, Path};
+use trove_stream::trove_parts::FileAt;
 
 /// For each path, whether a directory is recorded there.
 type Kinds = BTreeMap<Path, bool>;

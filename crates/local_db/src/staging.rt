@@ -1,8 +1,8 @@
 //! The directory in which contents are staged before it is known what they belong to.
 ghost use Rattle.std.specs.Prelude.{◌≡◌, ◌≤◌, IfErr, IfOk, IsErrOf, IsTrue, OnOk};
-ghost use Rattle.change_rel.specs.cny-base.Count.{Rose};
-ghost use Rattle.change_rel.specs.cny-base.Reserved.{private_directory};
-ghost use Rattle.change_rel.specs.cny-base.declared.stop.Stop.TheVariants as stop;
+ghost use Rattle.trove_stream.specs.cny-base.Count.{Rose};
+ghost use Rattle.trove_stream.specs.cny-base.Reserved.{private_directory};
+ghost use Rattle.trove_stream.specs.cny-base.declared.stop.Stop.TheVariants as stop;
 ghost use Rattle.tree_journal.specs.tree-disk.Confined.{Among, Confined, LeavesOnly};
 ghost use Rattle.tree_journal.specs.tree-disk.Steps.{IsDiskStop};
 ghost use Rattle.tree_journal.specs.journal-log.Own.{staged};
@@ -11,10 +11,10 @@ ghost use Rattle.tree_journal.specs.EmptyStage.{is_stage_name, CanEmptyStage, Ha
 ghost use Rattle.local_db.specs.Stage.{KeepsSystem};
 
 use crate::names::base_path;
-use change_rel::cny_base::{Path, Stop};
 use std::alloc::Global;
 use tree_journal::clear_stage;
 use tree_journal::tree_disk::TreeDisk;
+use trove_stream::cny_base::{Path, Stop};
 
 /// Makes the directory of staged contents an empty one, and answers its path, so that a change set may be pulled into it that
 /// comes in pieces. What the root stores stays.

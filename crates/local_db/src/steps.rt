@@ -1,9 +1,9 @@
 //! Laws of the steps from system to system.
 ghost use Rattle.std.specs.Prelude.{◌≡◌, ◌≢◌, ◌+◌, ◌≤◌, ℕ, ◌∷◌, ◌++◌, false, true, IsTrue, List, All, None, Bool};
 ghost use Rattle.std.specs.FinMap.{get};
-ghost use Rattle.change_rel.specs.cny-base.Reserved.{private_directory};
-ghost use Rattle.change_rel.specs.cny-base.declared.limits.TheConstants.{JOBS_LIMIT};
-ghost use Rattle.change_rel.specs.trove-stream.declared.parts.TroveParts.{TroveParts};
+ghost use Rattle.trove_stream.specs.cny-base.Reserved.{private_directory};
+ghost use Rattle.trove_stream.specs.cny-base.declared.limits.TheConstants.{JOBS_LIMIT};
+ghost use Rattle.trove_stream.specs.declared.parts.TroveParts.{TroveParts};
 ghost use Rattle.tree_journal.specs.tree-disk.Tree.{Name, Tree, is_dir, may_stand, WellFormed};
 ghost use Rattle.tree_journal.specs.tree-disk.Disk.{IsCrashImage};
 ghost use Rattle.tree_journal.specs.journal-log.declared.put.Put.{Put};

@@ -1,10 +1,10 @@
 //! The bytes of a database.
 ghost use Rattle.std.specs.Prelude.{◌≡◌, ◌<◌, ◌≤◌, ◌++◌, All, IfErr, IfOk, OnOk, length};
-ghost use Rattle.change_rel.specs.cny-base.declared.limits.TheConstants.{DATABASE_LIMIT};
+ghost use Rattle.trove_stream.specs.cny-base.declared.limits.TheConstants.{DATABASE_LIMIT};
 ghost use Rattle.cny_stream.specs.Item.{FitsItem, item_bytes};
-ghost use Rattle.change_rel.specs.trove-parts.Items.{items_bytes};
-ghost use Rattle.change_rel.specs.trove-stream.Stream.{full_trove_bytes};
-ghost use Rattle.change_rel.specs.trove-stream.Trove.{IsTrove};
+ghost use Rattle.trove_stream.specs.trove-parts.Items.{items_bytes};
+ghost use Rattle.trove_stream.specs.Stream.{full_trove_bytes};
+ghost use Rattle.trove_stream.specs.Trove.{IsTrove};
 ghost use Rattle.local_db.specs.declared.format.Format.TheVariants.{Two};
 ghost use Rattle.local_db.specs.Formats.{Fits, database_bytes};
 ghost use Rattle.local_db.specs.Writing.{IsTooLargeOrMemory};
@@ -12,10 +12,10 @@ ghost use Rattle.local_db.specs.Reading.{end_bytes};
 
 use crate::db::Db;
 use crate::laws::distinct_databases;
-use change_rel::cny_base::{Bytes, DATABASE_LIMIT, Fault, OutOfMemory, Refusal, What};
-use change_rel::trove_stream::{Trove, encode_full};
 use cny_stream::put_item;
 use std::alloc::Global;
+use trove_stream::cny_base::{Bytes, DATABASE_LIMIT, Fault, OutOfMemory, Refusal, What};
+use trove_stream::{Trove, encode_full};
 
 /// `CNYDB01` or `CNYDB02`, and a line feed.
 pub(crate) const MAGIC_1: &[u8] = b"CNYDB01\n";

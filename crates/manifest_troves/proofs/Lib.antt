@@ -11,4 +11,4 @@ pub mod KeptOnes
 pub use Rattle.change_set.proofs.trove-parts
 pub use Rattle.change_set.proofs.cny-base
 pub use Rattle.change_set.proofs.trove-stream
-pub use Rattle.change_set.proofs.file-stream
+pub use Rattle.change_set.proofs.cny-stream

@@ -9,7 +9,7 @@ use Rattle.change_set.specs.cny-base.Name.{is_name, kind_of_name}
 use Rattle.change_set.specs.cny-base.declared.name.NameKind.{NameKind}
 use Rattle.change_set.specs.cny-base.declared.name.NameKind.TheVariants.{Component, Package, Group}
 use Rattle.cny_dep.specs.Dep.{Dependency}
-use Rattle.change_set.specs.file-stream.Record.{is_dir}
+use Rattle.change_set.specs.cny-stream.Record.{is_dir}
 use Rattle.change_set.specs.trove-parts.declared.id.TroveId.{TroveId}
 use Rattle.change_set.specs.trove-parts.declared.files.FileAt.{FileAt}
 use Rattle.change_set.specs.trove-stream.declared.parts.TroveParts.{TroveParts}

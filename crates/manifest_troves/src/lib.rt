@@ -10,7 +10,7 @@ mod shares;
 mod troves;
 
 pub use change_set;
-pub use change_set::{cny_base, file_stream, trove_parts, trove_stream};
+pub use change_set::{cny_base, cny_stream, trove_parts, trove_stream};
 pub use contents::contents_of;
 pub use lines::{DepKind, DepLine, DepLines, TroveLines};
 pub use policy::component_of;

@@ -1,7 +1,7 @@
 -- A root whose log can't be put: each call leaves it as it is, and the repository.
 use Rattle.std.proofs.Common.{◌≡◌, inl, inr, ⊎_elim, ℕ, true, List, [], Option, Some, Result, Ok, Err, refl, sym, ap, ◌∙◌, subst}
 use Rattle.std.proofs.lemmas.Bool.{cases_Bool}
-use Rattle.cny_flow.specs.Flow.{SinkState}
+use Rattle.cny_base.specs.Flow.{SinkState}
 use Rattle.conary_cli.specs.cli-call.cny-base.Reserved.{private_directory}
 use Rattle.conary_cli.specs.cli-call.tree-disk.Confined.{IsSynced}
 use Rattle.conary_cli.specs.cli-call.tree-disk.Tree.{Tree}

@@ -1,6 +1,6 @@
 -- A call of `run` with the words of a line and just its input.
 use Rattle.std.proofs.Common.{◌≡◌, ℕ, List, [], subst}
-use Rattle.cny_flow.specs.Flow.{SinkState, SourceState}
+use Rattle.cny_base.specs.Flow.{SinkState, SourceState}
 use Rattle.cny_batch.specs.declared.line.Line.{Line}
 use Rattle.conary_cli.specs.Program.{line_state, told_source, IsSomething}
 use Rattle.tree_memory.specs.declared.memory.MemoryTree.{MemoryTree}

@@ -3,7 +3,7 @@ use Rattle.std.proofs.Common.{◌≡◌, Bool, Result, Ok, Err, refl, sym, ap, �
 use Rattle.conary_cli.specs.cli-call.cny-base.declared.refusal.Refusal.{Refusal}
 use Rattle.conary_cli.specs.cli-call.trove-stream.declared.parts.TroveParts.{TroveParts}
 use Rattle.conary_cli.specs.cli-call.trove-stream.declared.rel.RelParts.{RelParts}
-use Rattle.conary_cli.specs.cli-call.change-rel.Leads.{Leads}
+use Rattle.conary_cli.specs.cli-call.change-rel.trove-stream.Leads.{Leads}
 use Rattle.conary_cli.specs.cli-call.change-set.declared.change.ChangeSet.{ChangeSet}
 use Rattle.repo_load.specs.State.{catalogue_of, troves_of, RepositoryState}
 use Rattle.repository.specs.Steps.{after_commit, IsCommitStep}

@@ -13,8 +13,8 @@ use Rattle.conary_cli.specs.cli-call.trove-parts.declared.id.TroveId.{TroveId}
 use Rattle.conary_cli.specs.cli-call.trove-stream.declared.parts.TroveParts.{TroveParts}
 use Rattle.change_rel.proofs.cny-base.Lists.{contains_at}
 use Rattle.conary_cli.specs.root-commands.dep-closure.Closed.{IsClosed, IsFirstOf, IsFirstUnmet}
-use Rattle.conary_cli.specs.root-commands.dep-resolve.Candidate.{HasNoChoice, IsCandidate, IsChosen, IsForNone, IsLast}
-use Rattle.conary_cli.specs.root-commands.dep-resolve.Rounds.{with_added, Adds, AreAdded, Completes, EndsRound, IsHelpless, IsOpen, IsRound}
+use Rattle.conary_cli.specs.root-commands.sys-model.Candidate.{HasNoChoice, IsCandidate, IsChosen, IsForNone, IsLast}
+use Rattle.conary_cli.specs.root-commands.sys-model.Rounds.{with_added, Adds, AreAdded, Completes, EndsRound, IsHelpless, IsOpen, IsRound}
 use Rattle.trove_spec.specs.declared.config.Config.{Config}
 use Rattle.update_job.specs.Lists.{IsUpdated}
 use Rattle.trove_spec.specs.Expansion.{IsOfOneName}

@@ -7,9 +7,9 @@ use Rattle.std.specs.List.{fold}
 use Rattle.conary_cli.specs.cli-call.cny-base.declared.refusal.Refusal.{Refusal}
 use Rattle.conary_cli.specs.cli-call.cny-base.declared.refusal.Refusal.TheVariants as refusal
 use Rattle.conary_cli.specs.cli-call.tree-disk.Tree.{Tree}
-use Rattle.cny_flavor.specs.declared.parts.Parts.{Parts}
-use Rattle.cny_flavor.specs.Spelling.{IsRelaxedText}
-use Rattle.cny_flavor.proofs.Plain.{relaxed_read}
+use Rattle.cny_dep.specs.declared.parts.Parts.{Parts}
+use Rattle.cny_dep.specs.Spelling.{IsRelaxedText}
+use Rattle.cny_dep.proofs.Plain.{relaxed_read}
 use Rattle.trove_spec.specs.declared.config.Config.{Config}
 use Rattle.trove_spec.specs.declared.config.Setting.{Setting}
 use Rattle.trove_spec.specs.declared.config.Setting.TheVariants.{Skipped, LabelPath, SystemFlavor}

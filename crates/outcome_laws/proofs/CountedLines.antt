@@ -2,8 +2,8 @@
 use Rattle.std.proofs.Common.{◌≡◌, ◌⊎◌, inl, inr, ⊎_elim, ℕ, Bool, zero, suc, List, [], ◌∷◌, ◌++◌, length, Contains, Option, Some, None, Result, Ok, Err, refl, sym, ap, ◌∙◌, subst, append-nil, arith}
 use Rattle.std.specs.Prelude.{IsTrue}
 use Rattle.std.specs.Io.KnownBytes.{Appends, Keeps}
-use Rattle.cny_flow.specs.Flow.{SinkState}
-use Rattle.cny_flow.proofs.Parts.{appends_more}
+use Rattle.cny_base.specs.Flow.{SinkState}
+use Rattle.cny_base.proofs.FlowParts.{appends_more}
 use Rattle.conary_cli.specs.cli-call.cny-base.declared.refusal.Refusal.{Refusal}
 use Rattle.conary_cli.specs.cli-call.tree-disk.Tree.{Tree}
 use Rattle.conary_cli.specs.cli-call.tree-disk.Disk.{DiskModel, IsDisk, IsImageOf}

@@ -10,7 +10,7 @@ use Rattle.conary_cli.specs.cli-call.tree-journal.Recovery.{at_rest, by_log, is_
 use Rattle.conary_cli.specs.cli-call.tree-journal.CanBePut.{AllCanBePut}
 use Rattle.conary_cli.specs.cli-call.journal-log.declared.put.Put.{Put}
 use Rattle.repo_load.specs.State.{RepositoryState}
-use Rattle.cny_flow.specs.Flow.{SinkState}
+use Rattle.cny_base.specs.Flow.{SinkState}
 use Rattle.conary_cli.specs.cli-call.cny-laws.declared.failure.Failure.{Failure}
 use Rattle.conary_cli.specs.cli-call.cny-laws.declared.failure.Failure.TheVariants as failure
 use Rattle.conary_cli.specs.cli-call.cny-base.declared.refusal.Refusal.{Refusal}

@@ -2,7 +2,7 @@
 use Rattle.std.proofs.Common.{◌≡◌, ◌⊎◌, inl, inr, ⊎_elim, ℕ, ◌≤◌, Bool, true, false, zero, suc, List, [], ◌∷◌, Contains, Option, Some, Result, Ok, Err, refl, sym, ap, ◌∙◌, subst, append-nil, arith}
 use Rattle.std.specs.Prelude.{IsTrue}
 use Rattle.std.specs.Io.KnownBytes.{Appends, Keeps}
-use Rattle.cny_flow.specs.Flow.{SinkState}
+use Rattle.cny_base.specs.Flow.{SinkState}
 use Rattle.conary_cli.specs.cli-call.cny-base.declared.refusal.Refusal.{Refusal}
 use Rattle.conary_cli.specs.cli-call.cny-base.declared.stop.Stop.{Stop}
 use Rattle.conary_cli.specs.cli-call.cny-base.declared.stop.Stop.TheVariants as stop

@@ -1,6 +1,6 @@
 -- Once nothing is unsynced on either disk, the cuts are fixed, and when that is so; and so they are once a call opened both.
 use Rattle.std.proofs.Common.{◌≡◌, ◌⊎◌, inl, inr, ⊎_elim, ℕ, ◌≤◌, Bool, true, false, List, [], ◌∷◌, Result, Ok, Err, refl, sym, ap, subst, arith}
-use Rattle.cny_flow.specs.Flow.{SinkState}
+use Rattle.cny_base.specs.Flow.{SinkState}
 use Rattle.conary_cli.specs.cli-call.cny-base.declared.text.OutOfMemory.{OutOfMemory}
 use Rattle.conary_cli.specs.cli-call.tree-disk.Confined.{IsSynced}
 use Rattle.conary_cli.specs.cli-call.tree-disk.Tree.{Tree}

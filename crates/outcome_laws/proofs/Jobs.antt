@@ -13,7 +13,7 @@ use Rattle.cny_report.specs.Jobs.{undos_text}
 use Rattle.update_job.specs.Changes.{name_of, by_change, AreChanges}
 use Rattle.update_job.specs.Lists.{IsErased, IsUpdated}
 use Rattle.conary_cli.specs.root-commands.Jobs.{IsNoteOf, AreNotesOf, ListsJobs, list_jobs}
-use Rattle.change_rel.proofs.Members.{same_members}
+use Rattle.change_rel.proofs.trove-stream.Members.{same_members}
 use Rattle.conary_cli.proofs.cli-call.local-db.Sorted.{trove_total}
 use Rattle.outcome_laws.specs.OneOutcome.{AtMostOne, HasOneOutcome}
 use Rattle.outcome_laws.proofs.Tests.{done, with_shared}

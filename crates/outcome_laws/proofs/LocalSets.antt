@@ -5,7 +5,7 @@ use Rattle.conary_cli.specs.cli-call.trove-parts.Order.{id_cmp, id_total}
 use Rattle.conary_cli.specs.cli-call.trove-stream.declared.parts.TroveParts.{TroveParts}
 use Rattle.conary_cli.specs.cli-call.trove-stream.Installed.{by_name}
 use Rattle.conary_cli.specs.cli-call.trove-stream.declared.rel.RelParts.{RelParts}
-use Rattle.conary_cli.specs.cli-call.change-rel.Leads.{Leads}
+use Rattle.conary_cli.specs.cli-call.change-rel.trove-stream.Leads.{Leads}
 use Rattle.conary_cli.specs.cli-call.change-set.declared.change.ChangeSet.{ChangeSet}
 use Rattle.conary_cli.specs.cli-call.change-set.declared.change.Part.{Part}
 use Rattle.conary_cli.specs.cli-call.change-set.declared.change.Part.TheVariants.{Whole, Relative}
@@ -17,7 +17,7 @@ use Rattle.conary_cli.specs.root-commands.root-edits.Moved.{AreLocalRefs}
 use Rattle.conary_cli.specs.root-commands.root-edits.Reached.{AreReached}
 use Rattle.conary_cli.specs.root-commands.root-edits.Standing.{Sight, sights}
 use Rattle.conary_cli.specs.root-commands.LocalChanges.{change_locally, ChangesLocally, IsSetAnswered, IsSetOf}
-use Rattle.change_rel.proofs.Members.{same_members}
+use Rattle.change_rel.proofs.trove-stream.Members.{same_members}
 use Rattle.conary_cli.proofs.cli-call.local-db.Sorted.{trove_total}
 use Rattle.outcome_laws.specs.OneOutcome.{AtMostOne, HasOneOutcome}
 use Rattle.outcome_laws.proofs.Tests.{done, refused, with_shared}

@@ -6,7 +6,7 @@ use Rattle.conary_cli.specs.cli-call.cny-base.declared.refusal.Refusal.TheVarian
 use Rattle.conary_cli.specs.cli-call.trove-parts.Id.{id_text_of}
 use Rattle.conary_cli.specs.cli-call.trove-parts.declared.id.TroveId.{TroveId}
 use Rattle.conary_cli.specs.cli-call.trove-stream.declared.parts.TroveParts.{TroveParts}
-use Rattle.cny_flavor.specs.declared.parts.Parts.{Parts}
+use Rattle.cny_dep.specs.declared.parts.Parts.{Parts}
 use Rattle.cny_version.specs.Label.{LabelParts}
 use Rattle.trove_spec.specs.declared.config.Config.{Config}
 use Rattle.trove_spec.specs.declared.spec.Place.{Place}

@@ -2,7 +2,7 @@
 use Rattle.std.proofs.Common.{◌≡◌, ◌⊎◌, inl, inr, ⊎_elim, ℕ, ◌≤◌, Bool, true, false, codes, suc, List, [], ◌∷◌, length, Option, Some, None, Result, Ok, Err, refl, sym, ap, ◌∙◌, subst, arith}
 use Rattle.std.specs.Prelude.{IsTrue}
 use Rattle.std.specs.Str.{bytes_eq}
-use Rattle.cny_flow.specs.Flow.{SinkState, SourceState}
+use Rattle.cny_base.specs.Flow.{SinkState, SourceState}
 use Rattle.conary_cli.specs.cli-call.cny-base.declared.refusal.Refusal.{Refusal}
 use Rattle.conary_cli.specs.cli-call.tree-disk.Tree.{Tree}
 use Rattle.conary_cli.specs.cli-call.tree-disk.Disk.{DiskModel, IsDisk}

@@ -2,8 +2,8 @@
 use Rattle.std.proofs.Common.{◌≡◌, ℕ, Bool, true, false, ◌&&◌, List, [], ◌∷◌, ◌++◌, Option, Some, None, refl, sym, ap, ◌∙◌, subst}
 use Rattle.std.specs.Prelude.{not, ◌==◌}
 use Rattle.std.proofs.lemmas.Option.{same_Some}
-use Rattle.cny_flavor.specs.declared.parts.Parts.{Parts}
-use Rattle.cny_flavor.proofs.Plain.{relaxed_read}
+use Rattle.cny_dep.specs.declared.parts.Parts.{Parts}
+use Rattle.cny_dep.proofs.Plain.{relaxed_read}
 use Rattle.cny_version.specs.Label.{label_text, LabelParts}
 use Rattle.cny_version.specs.Version.{IsVersion}
 use Rattle.cny_version.proofs.LabelTexts.{label_text_no_slash}

@@ -10,8 +10,8 @@ use Rattle.conary_cli.specs.cli-call.change-set.declared.change.Carried.{Carried
 use Rattle.conary_cli.specs.cli-call.content-store.Contents.{Answers}
 use Rattle.conary_cli.specs.cli-call.content-store.Difference.{first_difference, shifted}
 use Rattle.conary_cli.specs.cli-call.conflict-plan.declared.planned.Planned.{Planned}
-use Rattle.conary_cli.specs.cli-call.file-stream.declared.record.FileRec.{FileRec}
-use Rattle.conary_cli.specs.cli-call.file-stream.declared.record.FileRec.TheVariants as rec
+use Rattle.conary_cli.specs.cli-call.cny-stream.declared.record.FileRec.{FileRec}
+use Rattle.conary_cli.specs.cli-call.cny-stream.declared.record.FileRec.TheVariants as rec
 use Rattle.conary_cli.specs.cli-call.journal-log.declared.put.Put.{Put}
 use Rattle.conary_cli.specs.cli-call.journal-log.declared.put.Want.{Want}
 use Rattle.conary_cli.specs.cli-call.journal-log.declared.put.Want.TheVariants as want

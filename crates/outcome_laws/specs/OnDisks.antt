@@ -1,6 +1,6 @@
 -- Histories on two disks, and to which states they lead.
 use Rattle.std.specs.Prelude.{◌≡◌, ◌⊎◌, ℕ, false, List, [], ◌∷◌, length, Ok}
-use Rattle.cny_flow.specs.Flow.{SinkState, SourceState}
+use Rattle.cny_base.specs.Flow.{SinkState, SourceState}
 use Rattle.conary_cli.specs.cli-call.tree-disk.Disk.{DiskModel}
 use Rattle.conary_cli.specs.cli-call.tree-journal.Recovery.{is_committed}
 use Rattle.conary_cli.specs.cli-call.cny-laws.Edits.{Edit, HasEdited, IsEdit}

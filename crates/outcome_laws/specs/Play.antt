@@ -1,6 +1,6 @@
 -- What `play` makes of two disks in memory, event by event.
 use Rattle.std.specs.Prelude.{◌≡◌, ◌⊎◌, ℕ, List, [], ◌∷◌, ◌++◌, Option, Some, Result, Ok, Err}
-use Rattle.cny_flow.specs.Flow.{SinkState}
+use Rattle.cny_base.specs.Flow.{SinkState}
 use Rattle.conary_cli.specs.cli-call.cny-base.declared.node.Node.{Node}
 use Rattle.conary_cli.specs.cli-call.cny-base.declared.text.OutOfMemory.{OutOfMemory}
 use Rattle.conary_cli.specs.cli-call.tree-disk.Disk.{IsImageOf}

@@ -1,6 +1,6 @@
 //! What a crash leaves of both disks after each event of a history: by a list of states, to one of which both disks recover.
 ghost use Rattle.std.specs.Prelude.{◌≡◌, ◌⊎◌, ◌≤◌, ℕ, IsTrue, List, [], ◌∷◌, map, true, false, Contains};
-ghost use Rattle.cny_flow.specs.Flow.{SinkState};
+ghost use Rattle.cny_base.specs.Flow.{SinkState};
 ghost use Rattle.conary_cli.specs.cli-call.cny-base.Reserved.{private_directory};
 ghost use Rattle.conary_cli.specs.cli-call.tree-journal.Recovery.{is_committed, HoldsLog};
 ghost use Rattle.conary_cli.specs.cli-call.tree-journal.CanBePut.{AllCanBePut};

@@ -29,7 +29,8 @@ ghost use Rattle.conary_cli.specs.root-commands.UpdateSpecs.{update_specs};
 ghost use Rattle.conary_cli.specs.root-commands.Verifying.{verify_fully, verify_installed};
 ghost use Rattle.outcome_laws.specs.OneOutcome.{HasOneOutcome, IsState};
 
-use change_rel::{one_relative, one_result};
+use change_rel::one_relative;
+use change_rel::trove_stream::one_result;
 use cny_manifest::one_manifest;
 use cny_version::distinct_texts;
 use conary_cli::cli_call::change_set::{one_fault, unique_set};

@@ -2,10 +2,9 @@
 ghost use Rattle.std.specs.Prelude.{◌≡◌, [], Some};
 ghost use Rattle.std.specs.Io.{ReadsAtMost};
 ghost use Rattle.std.specs.Io.KnownBytes.{ReadConsumes};
-ghost use Rattle.cny_flow.specs.Flow.{source_state, sink_state, HasCause, GiveAppends, KeepsRest};
+ghost use Rattle.cny_base.specs.Flow.{source_state, sink_state, HasCause, GiveAppends, KeepsRest};
 
-use cny_flow::cny_base::{Bytes, Fails};
-use cny_flow::{FlowFault, MemorySink, MemorySource, Sink, Source};
+use cny_base::{Bytes, Fails, FlowFault, MemorySink, MemorySource, Sink, Source};
 use std::alloc::Global;
 use std::marker::Model;
 

@@ -17,7 +17,7 @@ use Rattle.local_db.specs.cny-stream.Item.{item_bytes}
 use Rattle.local_db.specs.trove-parts.Items.{items_bytes}
 use Rattle.local_db.specs.trove-stream.declared.parts.TroveParts.{TroveParts}
 use Rattle.local_db.specs.tree-disk.Tree.{Name, same_name}
-use Rattle.local_db.specs.file-stream.declared.record.FileRec.{FileRec}
+use Rattle.local_db.specs.cny-stream.declared.record.FileRec.{FileRec}
 use Rattle.local_db.specs.trove-stream.Installed.{IsRising, trove_of}
 use Rattle.local_db.specs.Installed.{record_at, first_mark}
 use Rattle.local_db.specs.declared.format.Format.{Format}

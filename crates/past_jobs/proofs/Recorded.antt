@@ -6,7 +6,7 @@ use Rattle.std.specs.declared.cmp.Ordering.TheVariants.{Less}
 use Rattle.std.proofs.lemmas.List.Elements.{All-from_recursion, All-contains}
 use Rattle.std.proofs.lemmas.Map.Keys.{sorted_head, sorted_tail}
 use Rattle.std.proofs.lemmas.Option.{none-some}
-use Rattle.local_db.specs.file-stream.declared.record.FileRec.{FileRec}
+use Rattle.local_db.specs.cny-stream.declared.record.FileRec.{FileRec}
 use Rattle.local_db.specs.trove-stream.declared.parts.TroveParts.{TroveParts}
 use Rattle.local_db.specs.tree-disk.Tree.{Name}
 use Rattle.tree_scan.specs.declared.mark.Mark.{Mark}

@@ -10,9 +10,9 @@ use Rattle.std.proofs.lemmas.List.{get_or_default}
 use Rattle.std.proofs.lemmas.List.Elements.{All-contains, All-contains_itself, All-from_recursion}
 use Rattle.std.proofs.lemmas.Map.Keys.{Less-from_sorted, sorted_head, sorted_tail}
 use Rattle.std.proofs.lemmas.Option.{none-some}
-use Rattle.local_db.specs.file-stream.declared.record.FileRec.{FileRec}
-use Rattle.local_db.specs.file-stream.declared.record.FileRec.TheVariants as rec
-use Rattle.local_db.specs.file-stream.Record.{is_dir}
+use Rattle.local_db.specs.cny-stream.declared.record.FileRec.{FileRec}
+use Rattle.local_db.specs.cny-stream.declared.record.FileRec.TheVariants as rec
+use Rattle.local_db.specs.cny-stream.Record.{is_dir}
 use Rattle.local_db.specs.trove-parts.declared.files.FileAt.{FileAt}
 use Rattle.local_db.specs.trove-parts.Files.{file_cmp}
 use Rattle.local_db.specs.trove-stream.declared.parts.TroveParts.{TroveParts}

@@ -2,8 +2,8 @@
 use Rattle.std.proofs.Common.{◌≡◌, ℕ, Bool, IsTrue, List, sym, ap, ◌∙◌}
 use Rattle.std.specs.Cmp.Lexicographic.{bytes_decides}
 use Rattle.std.specs.Str.{bytes_eq}
-use Rattle.local_db.specs.file-stream.declared.encoding.Encoding.{Encoding}
-use Rattle.local_db.specs.file-stream.declared.encoding.Encoding.TheVariants.{Explicit}
+use Rattle.local_db.specs.cny-stream.declared.encoding.Encoding.{Encoding}
+use Rattle.local_db.specs.cny-stream.declared.encoding.Encoding.TheVariants.{Explicit}
 use Rattle.local_db.specs.trove-stream.declared.parts.TroveParts.{TroveParts}
 use Rattle.local_db.specs.trove-stream.Stream.{stream_bytes}
 use Rattle.local_db.specs.trove-stream.Trove.{IsTrove}

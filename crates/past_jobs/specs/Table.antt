@@ -5,8 +5,8 @@ use Rattle.std.specs.Cmp.Lexicographic.{slice_cmp}
 use Rattle.std.specs.List.{sum_by}
 use Rattle.std.specs.Map.{values_of}
 use Rattle.std.specs.Ordering.{nat_cmp, is_gt}
-use Rattle.local_db.specs.file-stream.declared.record.FileRec.{FileRec}
-use Rattle.local_db.specs.file-stream.Record as rec
+use Rattle.local_db.specs.cny-stream.declared.record.FileRec.{FileRec}
+use Rattle.local_db.specs.cny-stream.Record as rec
 use Rattle.local_db.specs.trove-stream.declared.parts.TroveParts.{TroveParts}
 use Rattle.local_db.specs.tree-disk.Tree.{Name}
 use Rattle.tree_scan.specs.declared.mark.Mark.{Mark}

@@ -13,7 +13,7 @@ ghost use Rattle.past_jobs.specs.Table.{IsHeld, troves_of};
 
 use crate::table::{Table, empty_table, put_troves, recorded_in};
 use crate::taking::{Taken, add_all, take_all};
-use change_rel::one_result;
+use change_rel::trove_stream::one_result;
 use local_db::cny_base::{Copies, ListOf, Name, OutOfMemory, Path, TextFault};
 use local_db::trove_parts::TroveId;
 use local_db::trove_stream::{Installed, Trove};

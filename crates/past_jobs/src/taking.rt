@@ -16,7 +16,7 @@ ghost use Rattle.past_jobs.specs.Table.{AreMade, IsIndexed, IsSound, MayJoin, ha
 use crate::table::{Table, may_join, put_trove, take_trove};
 use crate::turning::before_of;
 use local_db::cny_base::{Copies, Name, OutOfMemory, TextFault};
-use local_db::file_stream::FileRec;
+use local_db::cny_stream::FileRec;
 use local_db::trove_parts::TroveId;
 use local_db::trove_stream::{Trove, check};
 use local_db::{Delta, Format, are_roots};

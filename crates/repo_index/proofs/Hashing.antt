@@ -8,7 +8,7 @@ use Rattle.cny_version.specs.Version.{version_text}
 use Rattle.cny_version.proofs.cny-base.ByteLists.{bytes_mean}
 use Rattle.cny_version.proofs.cny-base.Lists.{one_passes}
 use Rattle.indexmap.specs.IndexMap.{get}
-use Rattle.trove_stream.specs.cny-flavor.Canonical.{flavor_text}
+use Rattle.trove_stream.specs.cny-dep.Canonical.{flavor_text}
 use Rattle.trove_stream.specs.trove-parts.declared.id.TroveId.{TroveId}
 use Rattle.trove_stream.specs.trove-parts.Order.{id_eq}
 use Rattle.repo_index.specs.declared.places_by_id.PlacesById.{PlacesById}

@@ -11,7 +11,7 @@ pub mod Renewed
 pub mod NextLists
 pub mod PlacesLaws
 pub use Rattle.trove_stream.proofs.cny-base
-pub use Rattle.trove_stream.proofs.file-stream
+pub use Rattle.trove_stream.proofs.cny-stream
 pub use Rattle.trove_stream.proofs as trove-stream
 pub use Rattle.trove_stream.proofs.cny-dep
 pub use Rattle.trove_stream.proofs.trove-parts

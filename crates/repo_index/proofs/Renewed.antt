@@ -10,7 +10,7 @@ use Rattle.trove_stream.specs.cny-base.Name.{kind_of_name}
 use Rattle.trove_stream.specs.cny-base.declared.name.NameKind.{NameKind}
 use Rattle.trove_stream.specs.cny-base.declared.name.NameKind.TheVariants.{Component, Package, Group}
 use Rattle.trove_stream.specs.cny-base.declared.limits.TheConstants.{REFS_LIMIT}
-use Rattle.trove_stream.specs.cny-flavor.Canonical.{flavor_text}
+use Rattle.trove_stream.specs.cny-dep.Canonical.{flavor_text}
 use Rattle.cny_version.specs.declared.revision.Revision.{Revision}
 use Rattle.cny_version.specs.Made.{next_count}
 use Rattle.cny_version.specs.Next.{latest_count, with_count}

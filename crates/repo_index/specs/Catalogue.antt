@@ -6,9 +6,9 @@ use Rattle.trove_stream.specs.cny-base.declared.refusal.Fault.{Fault}
 use Rattle.trove_stream.specs.cny-base.declared.refusal.Fault.TheVariants.{Refused, Memory}
 use Rattle.trove_stream.specs.cny-base.declared.refusal.Refusal.TheVariants.{Exists}
 use Rattle.cny_version.specs.Version.{WholeVersion, branch_text}
-use Rattle.trove_stream.specs.file-stream.declared.record.FileRec.{FileRec}
-use Rattle.trove_stream.specs.file-stream.declared.record.FileRec.TheVariants.{Dir, File, Link}
-use Rattle.trove_stream.specs.file-stream.Record.{has_name_and_size}
+use Rattle.trove_stream.specs.cny-stream.declared.record.FileRec.{FileRec}
+use Rattle.trove_stream.specs.cny-stream.declared.record.FileRec.TheVariants.{Dir, File, Link}
+use Rattle.trove_stream.specs.cny-stream.Record.{has_name_and_size}
 use Rattle.trove_stream.specs.trove-parts.declared.id.TroveId.{TroveId}
 use Rattle.trove_stream.specs.trove-parts.Id.{id_text_of}
 use Rattle.trove_stream.specs.trove-parts.Order.{id_eq}

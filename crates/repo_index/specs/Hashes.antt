@@ -6,7 +6,7 @@ use Rattle.std.specs.Hash.DefaultHasher as sip
 use Rattle.std.specs.declared.hash.DefaultHasher.{DefaultHasher}
 use Rattle.cny_version.specs.Version.{version_text}
 use Rattle.indexmap.specs.IndexMap.{get}
-use Rattle.trove_stream.specs.cny-flavor.Canonical.{flavor_text}
+use Rattle.trove_stream.specs.cny-dep.Canonical.{flavor_text}
 use Rattle.trove_stream.specs.trove-parts.declared.id.TroveId.{TroveId}
 use Rattle.repo_index.specs.declared.places_by_id.PlacesById.{PlacesById}
 use Rattle.repo_index.specs.Keys.{is_number}

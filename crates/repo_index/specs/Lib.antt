@@ -6,7 +6,7 @@ pub mod Index
 pub mod Next
 pub mod Steps
 pub use Rattle.trove_stream.specs.cny-base
-pub use Rattle.trove_stream.specs.cny-flavor
-pub use Rattle.trove_stream.specs.file-stream
+pub use Rattle.trove_stream.specs.cny-dep
+pub use Rattle.trove_stream.specs.cny-stream
 pub use Rattle.trove_stream.specs.trove-parts
 pub use Rattle.trove_stream.specs as trove-stream

@@ -4,7 +4,7 @@ ghost use Rattle.std.specs.List.{list_any};
 ghost use Rattle.std.specs.Str.{bytes_eq};
 ghost use Rattle.trove_stream.specs.declared.parts.TroveParts.{TroveParts};
 ghost use Rattle.repo_index.specs.Catalogue.{is_content, is_file_of, is_file_sized};
-ghost use Rattle.trove_stream.specs.file-stream.Record.{has_name_and_size};
+ghost use Rattle.trove_stream.specs.cny-stream.Record.{has_name_and_size};
 ghost use Rattle.indexmap.specs.IndexMap.{get};
 ghost use Rattle.repo_index.specs.Keys.{places_in, is_number, knows, knows_sized, Extends, ExtendsMap};
 ghost use Rattle.repo_index.specs.Hashes.{KeepsAll};
@@ -15,7 +15,7 @@ use indexmap::{IndexMap, IndexSet};
 use std::alloc::Global;
 use trove_stream::Trove;
 use trove_stream::cny_base::OutOfMemory;
-use trove_stream::file_stream::FileRec;
+use trove_stream::cny_stream::FileRec;
 use trove_stream::trove_parts::FileAt;
 
 /// A content, as a file record tells it.

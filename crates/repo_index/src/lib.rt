@@ -18,4 +18,4 @@ mod with_version;
 pub use catalogue::Catalogue;
 pub use renewing::{Troves, next_troves};
 pub use trove_stream;
-pub use trove_stream::{cny_base, file_stream, trove_parts};
+pub use trove_stream::{cny_base, cny_stream, trove_parts};

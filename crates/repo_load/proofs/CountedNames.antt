@@ -9,9 +9,9 @@ use Rattle.std.proofs.lemmas.List.Folds.{list_all-append}
 use Rattle.hex.specs.Hex.{encode_lower}
 use Rattle.repo_index.specs.cny-base.Below.{is_below}
 use Rattle.repo_index.proofs.cny-base.Below.{below_rest}
-use Rattle.repo_index.specs.file-stream.declared.record.FileRec.{FileRec}
-use Rattle.repo_index.specs.file-stream.declared.record.FileRec.TheVariants.{Dir, File, Link}
-use Rattle.repo_index.specs.file-stream.Record.{has_name_and_size}
+use Rattle.repo_index.specs.cny-stream.declared.record.FileRec.{FileRec}
+use Rattle.repo_index.specs.cny-stream.declared.record.FileRec.TheVariants.{Dir, File, Link}
+use Rattle.repo_index.specs.cny-stream.Record.{has_name_and_size}
 use Rattle.repo_index.specs.trove-stream.declared.parts.TroveParts.{TroveParts}
 use Rattle.journal_log.specs.tree-disk.Tree.{Name, Tree, same_name}
 use Rattle.journal_log.specs.tree-disk.Laws.{same_means}
@@ -27,7 +27,7 @@ use Rattle.repo_load.specs.Files.{commit_file, contents_dir, repository_base, Ho
 use Rattle.repo_load.proofs.Holding.{first_stays}
 use Rattle.repo_load.specs.State.{catalogue_of, records_content, trove_records, Commit, IsRepository, RepositoryState, troves_of}
 use Rattle.content_store.proofs.Digests.{digest_is_name}
-use Rattle.repo_index.proofs.file-stream.Digests.{digest_long}
+use Rattle.repo_index.proofs.cny-stream.Digests.{digest_long}
 use Rattle.repo_load.proofs.FileNames.{commit_differs}
 use Rattle.journal_log.proofs.cny-base.FileNames.{is_low}
 use Rattle.journal_log.proofs.tree-disk.Names.{within_rest}

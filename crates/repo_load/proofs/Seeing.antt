@@ -10,8 +10,8 @@ use Rattle.repo_index.specs.trove-stream.declared.parts.TroveParts.{TroveParts}
 use Rattle.repo_index.specs.trove-stream.Stream.{trove_bytes}
 use Rattle.journal_log.specs.tree-disk.Tree.{Name, Tree}
 use Rattle.content_store.specs.Store.{file_bytes}
-use Rattle.item_files.specs.Walk.{are_items, is_stream, stream_read}
-use Rattle.item_files.proofs.Streams.{all_lead, all_read, last_item, none_read, one_item, written_stream}
+use Rattle.journal_log.specs.Walk.{are_items, is_stream, stream_read}
+use Rattle.journal_log.proofs.FileStreams.{all_lead, all_read, last_item, none_read, one_item, written_stream}
 use Rattle.repo_load.specs.State.{Commit}
 use Rattle.repo_load.specs.Files.{commit_file, end_bytes, magic, FitsTrove, HoldsCommit, IsCommitStream}
 use Rattle.repo_load.specs.Loading.{LacksCommit}

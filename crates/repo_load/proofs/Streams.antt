@@ -4,7 +4,7 @@ use Rattle.std.proofs.lemmas.List.{append_cancel_left}
 use Rattle.std.proofs.lemmas.List.Elements.{All-head, All-tail}
 use Rattle.cny_stream.specs.Item.{item_bytes}
 use Rattle.cny_stream.proofs.ItemLaws.{same_item}
-use Rattle.repo_index.specs.file-stream.declared.encoding.Encoding.TheVariants.{Compact}
+use Rattle.repo_index.specs.cny-stream.declared.encoding.Encoding.TheVariants.{Compact}
 use Rattle.repo_index.specs.trove-parts.Items.{items_bytes}
 use Rattle.repo_index.specs.trove-stream.declared.parts.TroveParts.{TroveParts}
 use Rattle.repo_index.specs.trove-stream.Stream.{trove_bytes}

@@ -3,9 +3,9 @@ use Rattle.std.proofs.Common.{◌≡◌, ℕ, ◌&&◌, ◌||◌, Bool, true, fa
 use Rattle.std.specs.List.{list_any}
 use Rattle.std.specs.Prelude.{◌==◌}
 use Rattle.std.specs.Str.{bytes_eq}
-use Rattle.repo_index.specs.file-stream.declared.record.FileRec.{FileRec}
-use Rattle.repo_index.specs.file-stream.declared.record.FileRec.TheVariants.{Dir, File, Link}
-use Rattle.repo_index.specs.file-stream.Record.{has_name_and_size}
+use Rattle.repo_index.specs.cny-stream.declared.record.FileRec.{FileRec}
+use Rattle.repo_index.specs.cny-stream.declared.record.FileRec.TheVariants.{Dir, File, Link}
+use Rattle.repo_index.specs.cny-stream.Record.{has_name_and_size}
 use Rattle.repo_index.specs.trove-parts.declared.files.FileAt.{FileAt}
 use Rattle.repo_index.specs.trove-stream.declared.parts.TroveParts.{TroveParts}
 use Rattle.journal_log.specs.tree-disk.Tree.{Tree}

@@ -12,7 +12,7 @@ pub mod ContentsLaws
 pub mod RepoContents
 pub use Rattle.repo_index.specs.cny-base
 pub use Rattle.content_store.specs as content-store
-pub use Rattle.repo_index.specs.file-stream
+pub use Rattle.repo_index.specs.cny-stream
 pub use Rattle.journal_log.specs as journal-log
 pub use Rattle.journal_log.specs.tree-disk
 pub use Rattle.repo_index.specs.trove-parts

@@ -2,7 +2,7 @@
 use Rattle.std.specs.Prelude.{List, ℕ, [], ◌∷◌, Option, Some, None}
 use Rattle.repo_index.specs.cny-base.declared.node.Node.{Node}
 use Rattle.repo_index.specs.cny-base.declared.node.Node.TheVariants as node
-use Rattle.item_files.specs.Walk.{stream_read}
+use Rattle.journal_log.specs.Walk.{stream_read}
 use Rattle.repo_load.specs.declared.reading.Seen.{Seen}
 use Rattle.repo_load.specs.declared.reading.Seen.TheVariants as seen
 use Rattle.repo_load.specs.Files.{magic}

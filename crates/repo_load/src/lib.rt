@@ -35,6 +35,6 @@ pub use laws::stored_state;
 pub use loading::load;
 pub use names::{base_path, commit_path, content_path, contents_path};
 pub use repo_contents::RepoContents;
-pub use repo_index::{cny_base, file_stream, trove_parts, trove_stream};
+pub use repo_index::{cny_base, cny_stream, trove_parts, trove_stream};
 pub use state_laws::{one_commit, one_repository, stored_after_commit};
 pub use writing::encode_commit;

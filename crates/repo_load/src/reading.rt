@@ -10,7 +10,7 @@ ghost use Rattle.repo_load.specs.Seen.{file_as, seen_as};
 use crate::commit_reading::{Troves, decode_commit};
 use crate::names::commit_path;
 use crate::writing::{END, MAGIC, TROVE};
-use item_files::read_stream;
+use journal_log::read_stream;
 use journal_log::tree_disk::{TreeDisk, steps};
 use repo_index::cny_base::{Bytes, Path, Stop, TextFault};
 use std::alloc::Global;

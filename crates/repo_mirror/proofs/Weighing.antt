@@ -14,9 +14,9 @@ use Rattle.std.proofs.lemmas.List.Kept.{AllPairs-filter}
 use Rattle.std.proofs.lemmas.List.Sums.{sum_by-cons}
 use Rattle.std.proofs.lemmas.Map.Keys.{Less-from_sorted}
 use Rattle.std.proofs.lemmas.Slice.Eq.{bytes_eq-Decides}
-use Rattle.change_set.specs.file-stream.declared.record.FileRec.{FileRec}
-use Rattle.change_set.specs.file-stream.declared.record.FileRec.TheVariants.{Dir, File, Link}
-use Rattle.change_set.specs.file-stream.Record.{has_name_and_size}
+use Rattle.change_set.specs.cny-stream.declared.record.FileRec.{FileRec}
+use Rattle.change_set.specs.cny-stream.declared.record.FileRec.TheVariants.{Dir, File, Link}
+use Rattle.change_set.specs.cny-stream.Record.{has_name_and_size}
 use Rattle.change_set.specs.trove-parts.declared.files.FileAt.{FileAt}
 use Rattle.change_set.specs.declared.change.Carried.{Carried}
 use Rattle.change_set.specs.ChangeSet.{content_cmp}

@@ -5,7 +5,7 @@ use Rattle.std.specs.List.Sorted.{IsStrictlySortedBy}
 use Rattle.change_set.specs.trove-parts.declared.files.FileAt.{FileAt}
 use Rattle.change_set.specs.trove-stream.declared.parts.TroveParts.{TroveParts}
 use Rattle.change_set.specs.trove-stream.FilesOf.{files_of}
-use Rattle.change_set.specs.file-stream.Record.{has_name_and_size}
+use Rattle.change_set.specs.cny-stream.Record.{has_name_and_size}
 use Rattle.change_set.specs.declared.change.Carried.{Carried}
 use Rattle.change_set.specs.declared.change.ChangeSet.{ChangeSet}
 use Rattle.change_set.specs.declared.change.Part.TheVariants.{Whole}

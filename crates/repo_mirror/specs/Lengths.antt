@@ -1,8 +1,8 @@
 -- How long the stream of an absolute change set is, told by the records of its troves: no content is read.
 use Rattle.std.specs.Prelude.{ℕ, ◌+◌, if◌then◌else◌, List, [], ◌∷◌, ◌++◌, length, sum_by}
 use Rattle.std.specs.List.{list_any}
-use Rattle.change_set.specs.file-stream.declared.record.FileRec.{FileRec}
-use Rattle.change_set.specs.file-stream.declared.record.FileRec.TheVariants.{Dir, File, Link}
+use Rattle.change_set.specs.cny-stream.declared.record.FileRec.{FileRec}
+use Rattle.change_set.specs.cny-stream.declared.record.FileRec.TheVariants.{Dir, File, Link}
 use Rattle.change_set.specs.trove-parts.declared.files.FileAt.{FileAt}
 use Rattle.change_set.specs.trove-stream.declared.parts.TroveParts.{TroveParts}
 use Rattle.change_set.specs.trove-stream.FilesOf.{files_of}

@@ -11,4 +11,4 @@ pub mod Absolute
 pub mod Lengths
 pub mod Missing
 pub mod Sums
-pub use Rattle.change_set.specs.file-stream
+pub use Rattle.change_set.specs.cny-stream

@@ -9,7 +9,7 @@ ghost use Rattle.repo_mirror.specs.Sums.{AreNamesOf, IsSummed};
 
 use crate::missing_troves::SENT_LIMIT;
 use change_set::cny_base::{Bytes, Copies, OutOfMemory, PARTS_LIMIT, Refusal, What};
-use change_set::file_stream::FileRec;
+use change_set::cny_stream::FileRec;
 use change_set::trove_parts::{FileAt, TroveId};
 use change_set::trove_stream::{Trove, encode};
 use std::alloc::Global;

@@ -9,9 +9,9 @@ use Rattle.cny_stream.specs.Item.{item_bytes}
 use Rattle.repo_load.specs.cny-base.declared.limits.TheConstants.{CHANGE_SET_LIMIT, MESSAGE_LIMIT, PARTS_LIMIT}
 use Rattle.repo_load.specs.cny-base.declared.refusal.Refusal.TheVariants.{TooLarge}
 use Rattle.repo_load.specs.cny-base.declared.refusal.What.TheVariants as what
-use Rattle.repo_load.specs.file-stream.Record.{has_name_and_size}
-use Rattle.repo_load.specs.file-stream.declared.record.FileRec.{FileRec}
-use Rattle.repo_load.specs.file-stream.declared.record.FileRec.TheVariants.{Dir, File, Link}
+use Rattle.repo_load.specs.cny-stream.Record.{has_name_and_size}
+use Rattle.repo_load.specs.cny-stream.declared.record.FileRec.{FileRec}
+use Rattle.repo_load.specs.cny-stream.declared.record.FileRec.TheVariants.{Dir, File, Link}
 use Rattle.repo_load.specs.trove-parts.declared.files.FileAt.{FileAt}
 use Rattle.repo_load.specs.trove-stream.declared.parts.TroveParts.{TroveParts}
 use Rattle.repo_load.specs.trove-stream.FilesOf.{files_of}

@@ -10,7 +10,7 @@ use Rattle.repo_index.specs.cny-base.Name.{kind_of_name}
 use Rattle.repo_index.specs.cny-base.declared.name.NameKind.{NameKind}
 use Rattle.repo_index.specs.cny-base.declared.name.NameKind.TheVariants.{Component, Package, Group}
 use Rattle.repo_index.specs.cny-base.declared.limits.TheConstants.{REFS_LIMIT}
-use Rattle.repo_index.specs.cny-flavor.Canonical.{flavor_text}
+use Rattle.repo_index.specs.cny-dep.Canonical.{flavor_text}
 use Rattle.cny_version.specs.declared.revision.Revision.{Revision}
 use Rattle.cny_version.specs.Label.{LabelParts}
 use Rattle.cny_version.specs.Version.{version_text}

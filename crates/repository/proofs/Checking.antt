@@ -22,7 +22,7 @@ use Rattle.repository.specs.Tests.{collides, collision, later_refusal, missing_c
 use Rattle.repository.specs.Parts.{AreMade}
 use Rattle.repository.specs.Verdict.{CheckEnds, Checks, IsVerdict}
 use Rattle.change_rel.specs.trove-stream.FilesOf.{files_of}
-use Rattle.change_rel.proofs.Members.{drop_all as drop_none}
+use Rattle.change_rel.proofs.trove-stream.Members.{drop_all as drop_none}
 use Rattle.change_rel.proofs.trove-stream.Merging.{front_at}
 use Rattle.change_rel.proofs.cny-base.Allowed.{is_zero as no_length}
 

@@ -13,7 +13,7 @@ use Rattle.repo_load.specs.cny-base.declared.refusal.Refusal.{Refusal}
 use Rattle.repo_load.specs.trove-parts.declared.files.FileAt.{FileAt}
 use Rattle.repo_load.specs.trove-stream.declared.parts.TroveParts.{TroveParts}
 use Rattle.repo_load.specs.trove-stream.Trove.{IsTrove}
-use Rattle.repo_load.specs.file-stream.Record.{has_name_and_size}
+use Rattle.repo_load.specs.cny-stream.Record.{has_name_and_size}
 use Rattle.change_set.specs.declared.change.Part.{Part}
 use Rattle.change_set.specs.declared.change.Part.TheVariants.{Whole, Relative}
 use Rattle.change_set.specs.ChangeSet.{has_record, IsPart}

@@ -2,9 +2,9 @@
 use Rattle.std.proofs.Common.{◌≡◌, ℕ, List, Some, None, Option, ap, ◌∙◌}
 use Rattle.std.specs.Prelude.{IsTrue, ◌==◌}
 use Rattle.std.specs.Str.{bytes_eq}
-use Rattle.repo_load.specs.file-stream.declared.record.FileRec.{FileRec}
-use Rattle.repo_load.specs.file-stream.declared.record.FileRec.TheVariants.{Dir, File, Link}
-use Rattle.repo_load.specs.file-stream.Record.{has_name_and_size}
+use Rattle.repo_load.specs.cny-stream.declared.record.FileRec.{FileRec}
+use Rattle.repo_load.specs.cny-stream.declared.record.FileRec.TheVariants.{Dir, File, Link}
+use Rattle.repo_load.specs.cny-stream.Record.{has_name_and_size}
 use Rattle.change_rel.specs.Sending.{content_of}
 use Rattle.repo_index.specs.Catalogue.{is_content}
 use Rattle.change_rel.proofs.Sent.{content, one_name as name_is}

@@ -29,7 +29,7 @@ use Rattle.repository.specs.Preparing.{IsUntold, WritesCommit}
 use Rattle.repository.specs.Verdict.{IsVerdict}
 use Rattle.repository.proofs.Held.{kept_at, none_damaged, none_named}
 use Rattle.change_rel.specs.trove-stream.FilesOf.{files_of}
-use Rattle.change_rel.proofs.Members.{drop_all as drop_none}
+use Rattle.change_rel.proofs.trove-stream.Members.{drop_all as drop_none}
 use Rattle.change_rel.proofs.cny-base.Faults.{passed_on}
 use Rattle.change_rel.proofs.trove-stream.Merging.{front_at}
 

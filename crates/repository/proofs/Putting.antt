@@ -21,7 +21,7 @@ use Rattle.repo_load.specs.tree-disk.Clear.{is_within}
 use Rattle.tree_journal.proofs.tree-disk.Names.{within_rest}
 use Rattle.repo_load.proofs.CountedNames.{content_apart}
 use Rattle.repo_load.proofs.content-store.Digests.{digest_is_name}
-use Rattle.change_rel.proofs.file-stream.Digests.{digest_long}
+use Rattle.change_rel.proofs.cny-stream.Digests.{digest_long}
 use Rattle.repository.specs.Preparing.{AreStored, IsCarriedName, IsPutName, IsStored, IsUntold}
 use Rattle.tree_journal.specs.Preparing.{Prepares}
 use Rattle.repository.proofs.Placing.{dir_not_within}

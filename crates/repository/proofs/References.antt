@@ -11,7 +11,7 @@ use Rattle.repo_index.specs.Catalogue.{found}
 use Rattle.repo_load.specs.State.{HasRefs}
 use Rattle.repository.specs.Tests.{missing_ref, refs_of}
 use Rattle.repository.proofs.Lists.{some_append, then_none}
-use Rattle.change_rel.proofs.Members.{drop_all as drop_none}
+use Rattle.change_rel.proofs.trove-stream.Members.{drop_all as drop_none}
 use Rattle.change_rel.proofs.trove-stream.Merging.{front_at}
 
 pub missing_append : (all : List TroveParts) (a b : List TroveId) → missing_ref all (a ++ b) ≡ option_or (missing_ref all a) (missing_ref all b)

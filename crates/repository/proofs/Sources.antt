@@ -8,9 +8,9 @@ use Rattle.std.specs.Str.{bytes_eq}
 use Rattle.std.specs.Option.{option_or}
 use Rattle.std.proofs.lemmas.List.Elements.{All-cons, All-head, All-nil, All-tail}
 use Rattle.repo_load.specs.cny-base.declared.refusal.Refusal.TheVariants.{MissingContent}
-use Rattle.repo_load.specs.file-stream.declared.record.FileRec.{FileRec}
-use Rattle.repo_load.specs.file-stream.declared.record.FileRec.TheVariants.{Dir, File, Link}
-use Rattle.repo_load.specs.file-stream.Record.{has_name_and_size}
+use Rattle.repo_load.specs.cny-stream.declared.record.FileRec.{FileRec}
+use Rattle.repo_load.specs.cny-stream.declared.record.FileRec.TheVariants.{Dir, File, Link}
+use Rattle.repo_load.specs.cny-stream.Record.{has_name_and_size}
 use Rattle.repo_load.specs.trove-parts.declared.files.FileAt.{FileAt}
 use Rattle.repo_load.specs.trove-stream.declared.parts.TroveParts.{TroveParts}
 use Rattle.change_set.specs.declared.change.Carried.{Carried}
@@ -28,7 +28,7 @@ use Rattle.change_rel.proofs.cny-base.ByteLists.{same_bytes}
 use Rattle.change_rel.specs.trove-stream.FilesOf.{files_of}
 use Rattle.tree_journal.proofs.tree-disk.Nodes.{left_true as and_first}
 use Rattle.tree_journal.proofs.tree-disk.Laws.{second as and_second}
-use Rattle.change_rel.proofs.Members.{drop_all as drop_none}
+use Rattle.change_rel.proofs.trove-stream.Members.{drop_all as drop_none}
 use Rattle.change_rel.proofs.trove-stream.Merging.{front_at}
 use Rattle.tree_journal.proofs.tree-disk.ClearLaws.{or_cases as or_either}
 use Rattle.change_rel.proofs.cny-base.Below.{test_equal as same_size}

@@ -5,7 +5,7 @@ use Rattle.std.proofs.lemmas.List.Elements.{All-head, All-tail}
 use Rattle.repo_load.specs.cny-base.declared.refusal.Refusal.{Refusal}
 use Rattle.repo_load.specs.trove-stream.declared.rel.RelParts.{RelParts}
 use Rattle.repo_load.specs.trove-stream.declared.parts.TroveParts.{TroveParts}
-use Rattle.change_rel.specs.Leads.{Leads}
+use Rattle.change_rel.specs.trove-stream.Leads.{Leads}
 use Rattle.change_set.specs.declared.change.ChangeSet.{ChangeSet}
 use Rattle.change_set.specs.declared.change.Part.{Part}
 use Rattle.change_set.specs.declared.change.Part.TheVariants.{Whole, Relative}

@@ -6,7 +6,7 @@ use Rattle.std.specs.Option.{option_map_or}
 use Rattle.sha1.specs.Sha1.{sha1}
 use Rattle.repo_load.specs.trove-parts.declared.files.FileAt.{FileAt}
 use Rattle.repo_load.specs.trove-stream.declared.parts.TroveParts.{TroveParts}
-use Rattle.change_rel.specs.Leads.{Leads}
+use Rattle.change_rel.specs.trove-stream.Leads.{Leads}
 use Rattle.change_rel.specs.Sending.{content_of, SendsName}
 use Rattle.change_set.specs.declared.change.Part.{Part}
 use Rattle.change_set.specs.declared.change.Part.TheVariants.{Whole, Relative}

@@ -6,7 +6,7 @@ use Rattle.repo_load.specs.trove-parts.Id.{id_text_of}
 use Rattle.repo_load.specs.trove-stream.declared.rel.RelParts.{RelParts}
 use Rattle.repo_load.specs.trove-stream.declared.parts.TroveParts.{TroveParts}
 use Rattle.repo_load.specs.trove-stream.Forbidden.{first_forbidden}
-use Rattle.change_rel.specs.Leads.{Leads}
+use Rattle.change_rel.specs.trove-stream.Leads.{Leads}
 use Rattle.change_set.specs.declared.change.Part.{Part}
 use Rattle.change_set.specs.declared.change.Part.TheVariants.{Whole, Relative}
 use Rattle.repo_index.specs.Catalogue.{CatalogueParts, found, with_trove}

@@ -7,8 +7,8 @@ use Rattle.repo_load.specs.cny-base.declared.limits.TheConstants.{COMMITS_LIMIT}
 use Rattle.repo_load.specs.cny-base.declared.refusal.Refusal.{Refusal}
 use Rattle.repo_load.specs.cny-base.declared.refusal.Refusal.TheVariants.{Collision, MissingContent, MissingRef, TooLarge}
 use Rattle.repo_load.specs.cny-base.declared.refusal.What.TheVariants.{Commits}
-use Rattle.repo_load.specs.file-stream.declared.record.FileRec.{FileRec}
-use Rattle.repo_load.specs.file-stream.declared.record.FileRec.TheVariants.{Dir, File, Link}
+use Rattle.repo_load.specs.cny-stream.declared.record.FileRec.{FileRec}
+use Rattle.repo_load.specs.cny-stream.declared.record.FileRec.TheVariants.{Dir, File, Link}
 use Rattle.repo_load.specs.trove-parts.declared.id.TroveId.{TroveId}
 use Rattle.repo_load.specs.trove-parts.Id.{id_text_of}
 use Rattle.repo_load.specs.trove-parts.declared.files.FileAt.{FileAt}

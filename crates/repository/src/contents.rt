@@ -13,7 +13,7 @@ ghost use Rattle.repo_load.specs.journal-log.Own.{staged};
 use change_pull::Incoming;
 use repo_index::Catalogue;
 use repo_load::cny_base::{Fault, Refusal};
-use repo_load::file_stream::FileRec;
+use repo_load::cny_stream::FileRec;
 use repo_load::trove_parts::FileAt;
 use repo_load::trove_stream::Trove;
 

@@ -16,7 +16,7 @@ ghost use Rattle.repository.specs.Preparing.{IsWrittenName};
 ghost use Rattle.repository.specs.Steps.{IsCommitStep, RecoversAlone};
 ghost use Rattle.repository.specs.Tests.{IsRefused};
 
-use change_rel::one_result;
+use change_rel::trove_stream::one_result;
 use repo_load::one_repository;
 use repo_load::tree_disk::TreeDisk;
 

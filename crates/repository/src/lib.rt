@@ -35,7 +35,7 @@ pub use committing::{commit, commit_staged};
 pub use joining::TroveIds;
 pub use laws::{at_rest, commit_step, kept_files, same_contents};
 pub use repo_load::{
-    RepoContents, cny_base, content, content_store, counts, file_stream, load, trove_parts,
+    RepoContents, cny_base, cny_stream, content, content_store, counts, load, trove_parts,
     trove_stream,
 };
 pub use sets::between;

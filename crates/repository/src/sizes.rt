@@ -5,7 +5,7 @@ ghost use Rattle.change_set.specs.ChangeSet.{content_cmp};
 ghost use Rattle.repository.specs.BetweenSteps.{AllFit, FileFits, FileHasOther, FilesFit, FilesHaveOther, HasOther, IsNamed, IsOtherSize, IsUnnamed, SizeFits};
 
 use change_set::Carried;
-use repo_load::file_stream::FileRec;
+use repo_load::cny_stream::FileRec;
 use repo_load::trove_parts::FileAt;
 use repo_load::trove_stream::Trove;
 

@@ -7,11 +7,11 @@ use Rattle.std.proofs.lemmas.Slice.Eq.{bytes_eq-Decides}
 use Rattle.job_targets.specs.cny-base.StrField.{str}
 use Rattle.job_targets.specs.cny-base.declared.limits.TheConstants.{DATABASE_LIMIT, FORMAT_1_DATABASE_LIMIT}
 use Rattle.job_targets.specs.cny-stream.Item.{item_bytes}
-use Rattle.job_targets.specs.file-stream.declared.encoding.Encoding.TheVariants.{Compact, Explicit}
-use Rattle.job_targets.specs.file-stream.declared.record.FileRec.{FileRec}
-use Rattle.job_targets.specs.file-stream.declared.record.FileRec.TheVariants.{Dir, File, Link}
-use Rattle.job_targets.specs.file-stream.Owner.{OwnerNames, is_root, root}
-use Rattle.job_targets.specs.file-stream.Record.{flag_bits, names_owner, owned, owner_bytes, record_bytes}
+use Rattle.job_targets.specs.cny-stream.declared.encoding.Encoding.TheVariants.{Compact, Explicit}
+use Rattle.job_targets.specs.cny-stream.declared.record.FileRec.{FileRec}
+use Rattle.job_targets.specs.cny-stream.declared.record.FileRec.TheVariants.{Dir, File, Link}
+use Rattle.job_targets.specs.cny-stream.Owner.{OwnerNames, is_root, root}
+use Rattle.job_targets.specs.cny-stream.Record.{flag_bits, names_owner, owned, owner_bytes, record_bytes}
 use Rattle.local_db.specs.Formats.{Fits, database_bytes, database_magic, trove_text}
 use Rattle.local_db.specs.declared.format.Format.TheVariants.{One, Two}
 use Rattle.job_targets.specs.trove-parts.declared.files.FileAt.{FileAt}

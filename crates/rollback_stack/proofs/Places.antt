@@ -14,7 +14,7 @@ use Rattle.job_targets.proofs.tree-disk.ClearLaws.{or_cases}
 use Rattle.job_targets.specs.content-store.Store.{content_path}
 use Rattle.local_db.specs.Names.{is_job_place, record_file, saved}
 use Rattle.job_targets.proofs.content-store.Digits.{digits_long}
-use Rattle.change_rel.proofs.file-stream.Digests.{digest_long}
+use Rattle.change_rel.proofs.cny-stream.Digests.{digest_long}
 use Rattle.tree_scan.proofs.tree-disk.Names.{within_rest}
 use Rattle.local_db.proofs.tree-journal.Staged.{decimal_plain as no_slash}
 use Rattle.change_rel.proofs.cny-base.Bools.{not_true as not_so}

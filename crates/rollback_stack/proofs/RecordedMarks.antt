@@ -2,9 +2,9 @@
 use Rattle.std.proofs.Common.{◌≡◌, ℕ, ◌<◌, ◌≤◌, ◌^◌, Bool, true, false, cond, List, [], ◌∷◌, Option, Some, None, All, refl, subst, arith}
 use Rattle.std.proofs.lemmas.List.Elements.{All-head, All-tail}
 use Rattle.local_db.specs.cny-base.declared.limits.TheConstants.{CONTENT_LIMIT}
-use Rattle.local_db.specs.file-stream.declared.record.FileRec.{FileRec}
-use Rattle.local_db.specs.file-stream.declared.record.FileRec.TheVariants as rec
-use Rattle.local_db.specs.file-stream.Record.{IsFileRecord}
+use Rattle.local_db.specs.cny-stream.declared.record.FileRec.{FileRec}
+use Rattle.local_db.specs.cny-stream.declared.record.FileRec.TheVariants as rec
+use Rattle.local_db.specs.cny-stream.Record.{IsFileRecord}
 use Rattle.local_db.specs.trove-parts.declared.files.FileAt.{FileAt}
 use Rattle.local_db.specs.trove-parts.Files.{IsFileAt}
 use Rattle.local_db.specs.trove-stream.declared.parts.TroveParts.{TroveParts}

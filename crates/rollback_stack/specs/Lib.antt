@@ -16,7 +16,7 @@ pub use Rattle.change_rel.specs as change-rel
 pub use Rattle.job_targets.specs.change-set
 pub use Rattle.job_targets.specs.cny-base
 pub use Rattle.job_targets.specs.content-store
-pub use Rattle.job_targets.specs.file-stream
+pub use Rattle.job_targets.specs.cny-stream
 pub use Rattle.job_record.specs as job-record
 pub use Rattle.past_jobs.specs as past-jobs
 pub use Rattle.job_targets.specs.journal-log

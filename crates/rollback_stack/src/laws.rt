@@ -6,7 +6,7 @@ ghost use Rattle.job_targets.specs.tree-disk.Tree.{Tree};
 ghost use Rattle.job_targets.specs.trove-stream.declared.parts.TroveParts.{TroveParts};
 ghost use Rattle.rollback_stack.specs.JobReading.{HoldsRecord, HoldsRecords};
 
-use change_rel::one_result;
+use change_rel::trove_stream::one_result;
 use job_targets::trove_parts::distinct_ids;
 use job_targets::trove_stream::{distinct_rels, distinct_troves};
 

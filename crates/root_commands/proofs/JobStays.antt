@@ -9,8 +9,8 @@ use Rattle.cli_call.specs.cny-base.Reserved.{is_pinned}
 use Rattle.cli_call.specs.cny-base.declared.node.Node.{Node}
 use Rattle.cli_call.specs.cny-base.declared.node.Node.TheVariants as node
 use Rattle.cli_call.specs.cny-base.declared.options.Options.{Options}
-use Rattle.cli_call.specs.file-stream.declared.record.FileRec.{FileRec}
-use Rattle.cli_call.specs.file-stream.Record as recorded
+use Rattle.cli_call.specs.cny-stream.declared.record.FileRec.{FileRec}
+use Rattle.cli_call.specs.cny-stream.Record as recorded
 use Rattle.cli_call.specs.tree-disk.Tree.{is_dir, Name, Tree, WellFormed}
 use Rattle.cli_call.specs.tree-scan.declared.mark.Mark.{Mark}
 use Rattle.cli_call.specs.tree-scan.Marks as marks

@@ -8,8 +8,8 @@ use Rattle.cli_call.specs.cny-base.declared.stop.Stop.TheVariants.{Refused, Memo
 use Rattle.cli_call.specs.change-set.declared.change.Carried.{Carried}
 use Rattle.cli_call.specs.conflict-plan.declared.planned.Planned.{Planned}
 use Rattle.cli_call.specs.content-store.Contents.{Answers}
-use Rattle.cli_call.specs.file-stream.declared.record.FileRec.{FileRec}
-use Rattle.cli_call.specs.file-stream.declared.record.FileRec.TheVariants as rec
+use Rattle.cli_call.specs.cny-stream.declared.record.FileRec.{FileRec}
+use Rattle.cli_call.specs.cny-stream.declared.record.FileRec.TheVariants as rec
 use Rattle.cli_call.specs.journal-log.declared.put.Put.{Put}
 use Rattle.cli_call.specs.journal-log.declared.put.Want.{Want}
 use Rattle.cli_call.specs.trove-stream.declared.parts.TroveParts.{TroveParts}

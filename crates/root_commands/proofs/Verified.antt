@@ -5,8 +5,8 @@ use Rattle.std.specs.List.{AllByRecursion, cons_option}
 use Rattle.std.specs.Option.{option_map}
 use Rattle.std.proofs.lemmas.List.Elements.{All-filter, recursion_from_All}
 use Rattle.cli_call.specs.cny-base.Reserved.{is_reserved}
-use Rattle.cli_call.specs.file-stream.declared.record.FileRec.{FileRec}
-use Rattle.cli_call.specs.file-stream.declared.record.FileRec.TheVariants as rec
+use Rattle.cli_call.specs.cny-stream.declared.record.FileRec.{FileRec}
+use Rattle.cli_call.specs.cny-stream.declared.record.FileRec.TheVariants as rec
 use Rattle.cli_call.specs.trove-parts.declared.files.FileAt.{FileAt}
 use Rattle.cli_call.specs.trove-stream.declared.parts.TroveParts.{TroveParts}
 use Rattle.cli_call.specs.trove-stream.Forbidden.{first_forbidden, is_forbidden_file}

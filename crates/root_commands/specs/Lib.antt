@@ -13,6 +13,5 @@ pub mod UpdateSpecs
 pub mod Syncing
 pub use Rattle.cli_call.specs as cli-call
 pub use Rattle.dep_closure.specs as dep-closure
-pub use Rattle.dep_resolve.specs as dep-resolve
-pub use Rattle.root_edits.specs as root-edits
 pub use Rattle.sys_model.specs as sys-model
+pub use Rattle.root_edits.specs as root-edits

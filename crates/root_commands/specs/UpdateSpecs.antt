@@ -12,7 +12,7 @@ use Rattle.cli_call.specs.cny-laws.State.{tree_of, Effect, Meaning, State}
 use Rattle.trove_spec.specs.declared.given.GivenSpec.{GivenSpec}
 use Rattle.trove_spec.specs.AndThen.{AndThen}
 use Rattle.trove_spec.specs.Meant.{Means}
-use Rattle.dep_resolve.specs.Rounds.{Completes}
+use Rattle.sys_model.specs.Rounds.{Completes}
 use Rattle.root_commands.specs.Update.{UpdatesTo}
 
 -- each specification means the trove of the id at its place

@@ -5,7 +5,7 @@ ghost use Rattle.cli_call.specs.Alone.{AnswersByContents};
 ghost use Rattle.cli_call.specs.Command.{disks, AreReady, Performs};
 ghost use Rattle.cli_call.specs.tree-disk.Disk.{Reads};
 ghost use Rattle.trove_spec.specs.AndThen.{EndsAs};
-ghost use Rattle.dep_resolve.specs.Rounds.{Completes};
+ghost use Rattle.sys_model.specs.Rounds.{Completes};
 ghost use Rattle.cli_call.specs.system-core.Lists.{AllPathsAllowed};
 ghost use Rattle.root_commands.specs.UpdateSpecs as spec;
 ghost use Rattle.root_commands.specs.UpdateSpecs.{BringAll, MeanAll, ReachAll};
@@ -15,11 +15,11 @@ use cli_call::cny_base::{Fault, ListOf, Options, Text};
 use cli_call::tree_disk::TreeDisk;
 use cli_call::trove_parts::TroveId;
 use cli_call::{Failure, Opened, on_root, store_laws};
-use dep_resolve::complete;
 use local_db::distinct_databases;
 use repo_index::Catalogue;
 use repo_load::stored_state;
 use std::alloc::Global;
+use sys_model::complete;
 use trove_spec::{Config, GivenSpec, Troves, expand, meant, read_config};
 
 type TroveIds = ListOf<TroveId>;
@@ -85,7 +85,7 @@ fn all_brought(
 
 /// Installs what the specifications mean, with all that it reaches, each trove in place of what its name reached by references: a
 /// line `installed T`, `updated T` or `erased T` for each change of the installed list, or `nothing changes`. Where the update is to
-/// complete itself, troves of the repository come too for requirements that nothing satisfies (`dep_resolve::complete`). The contents
+/// complete itself, troves of the repository come too for requirements that nothing satisfies (`sys_model::complete`). The contents
 /// come from the repository, which is only read. It takes effect as a whole or not at all, whenever the machine stops.
 pub fn update_specs<T: TreeDisk, P: TreeDisk>(
     alloc: Global,

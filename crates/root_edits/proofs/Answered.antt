@@ -3,8 +3,8 @@ use Rattle.std.proofs.Common.{◌≡◌, ◌∙◌, ap, ℕ, Bool, true, false, 
 use Rattle.std.specs.Prelude.{IsSomeAnd, MatchBool}
 use Rattle.std.specs.List.{cons_option}
 use Rattle.std.specs.Option.{option_map}
-use Rattle.update_job.specs.file-stream.declared.record.FileRec.{FileRec}
-use Rattle.update_job.specs.file-stream.declared.record.FileRec.TheVariants as rec
+use Rattle.update_job.specs.cny-stream.declared.record.FileRec.{FileRec}
+use Rattle.update_job.specs.cny-stream.declared.record.FileRec.TheVariants as rec
 use Rattle.update_job.specs.trove-parts.declared.files.FileAt.{FileAt}
 use Rattle.update_job.specs.trove-stream.declared.parts.TroveParts.{TroveParts}
 use Rattle.tree_scan.specs.tree-disk.Tree.{Name, Tree}

@@ -10,8 +10,8 @@ use Rattle.std.proofs.lemmas.Bool.Decides.{nat_tests}
 use Rattle.std.proofs.lemmas.Map.Keys.{sorted_head, sorted_tail}
 use Rattle.std.proofs.lemmas.Slice.Eq.{bytes_eq-Decides}
 use Rattle.update_job.specs.cny-base.Target.{is_target}
-use Rattle.update_job.specs.file-stream.declared.record.FileRec.TheVariants as rec
-use Rattle.update_job.specs.file-stream.Owner.{is_owner}
+use Rattle.update_job.specs.cny-stream.declared.record.FileRec.TheVariants as rec
+use Rattle.update_job.specs.cny-stream.Owner.{is_owner}
 use Rattle.std.specs.List.{cons_option, list_all, AllByRecursion}
 use Rattle.std.specs.List.Sorted.{IsStrictlySortedBy}
 use Rattle.std.specs.Option.{option_map, option_or}
@@ -27,8 +27,8 @@ use Rattle.update_job.specs.cny-base.declared.node.Node.TheVariants as node
 use Rattle.update_job.specs.cny-base.declared.refusal.Refusal.{Refusal}
 use Rattle.update_job.specs.cny-base.declared.refusal.Refusal.TheVariants as refusal
 use Rattle.update_job.specs.cny-base.declared.refusal.What.TheVariants as what
-use Rattle.update_job.specs.file-stream.declared.record.FileRec.{FileRec}
-use Rattle.update_job.specs.file-stream.Record.{IsFileRecord, has_name_and_size}
+use Rattle.update_job.specs.cny-stream.declared.record.FileRec.{FileRec}
+use Rattle.update_job.specs.cny-stream.Record.{IsFileRecord, has_name_and_size}
 use Rattle.update_job.specs.trove-parts.declared.files.FileAt.{FileAt}
 use Rattle.update_job.specs.trove-parts.Files.{AreFiles, IsFileAt, file_cmp}
 use Rattle.update_job.specs.change-set.declared.change.Carried.{Carried}
@@ -40,7 +40,7 @@ use Rattle.cny_version.proofs.cny-base.Lists.{all_from, contains_first, contains
 use Rattle.cny_version.proofs.cny-base.Bools.{both}
 use Rattle.cny_version.proofs.cny-base.Sorted.{rising_nil as rises_none}
 use Rattle.cny_version.proofs.cny-base.Below.{equal_test as same_number}
-use Rattle.change_rel.proofs.file-stream.Digests.{digest_long as sha1_length}
+use Rattle.change_rel.proofs.cny-stream.Digests.{digest_long as sha1_length}
 
 -- ---- one more
 

@@ -7,12 +7,12 @@ use Rattle.std.proofs.lemmas.Grind.{flat_map-append}
 use Rattle.std.proofs.lemmas.List.{at_drop_more, map-append}
 use Rattle.std.proofs.lemmas.List.Elements.{All-contains, Contains-append_left, Contains-push, Contains-push_cases, filter_map-append}
 use Rattle.update_job.specs.cny-base.declared.refusal.Refusal.{Refusal}
-use Rattle.update_job.specs.file-stream.Record.{has_name_and_size}
+use Rattle.update_job.specs.cny-stream.Record.{has_name_and_size}
 use Rattle.update_job.specs.trove-parts.declared.files.FileAt.{FileAt}
 use Rattle.update_job.specs.trove-stream.declared.parts.TroveParts.{TroveParts}
 use Rattle.update_job.specs.trove-stream.Trove.{IsTrove}
 use Rattle.update_job.specs.trove-stream.declared.rel.RelParts.{RelParts}
-use Rattle.change_rel.specs.Leads.{Leads}
+use Rattle.change_rel.specs.trove-stream.Leads.{Leads}
 use Rattle.update_job.specs.change-set.declared.change.Part.{Part}
 use Rattle.update_job.specs.change-set.declared.change.Part.TheVariants.{Relative}
 use Rattle.update_job.specs.change-set.declared.change.Carried.{Carried}
@@ -31,7 +31,7 @@ use Rattle.root_edits.proofs.Seeing.{IsCarried, carried_of, large_behind, large_
 use Rattle.cny_version.proofs.cny-base.Lists.{all_from, contains_cases, contains_map, nothing_in, one_passes}
 use Rattle.cny_version.proofs.cny-base.Recorded.{any_of}
 use Rattle.change_rel.proofs.Sent.{one_at}
-use Rattle.change_rel.proofs.file-stream.Digests.{digest_long as sha1_length}
+use Rattle.change_rel.proofs.cny-stream.Digests.{digest_long as sha1_length}
 
 -- ---- contents and the parts that record them
 

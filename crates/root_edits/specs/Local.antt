@@ -8,7 +8,7 @@ use Rattle.update_job.specs.cny-base.declared.stop.Stop.{Stop}
 use Rattle.update_job.specs.cny-base.declared.stop.Stop.TheVariants as stop
 use Rattle.update_job.specs.trove-parts.declared.files.FileAt.{FileAt}
 use Rattle.update_job.specs.trove-stream.declared.parts.TroveParts.{TroveParts}
-use Rattle.change_rel.specs.Leads.{Leads}
+use Rattle.change_rel.specs.trove-stream.Leads.{Leads}
 use Rattle.update_job.specs.change-set.declared.change.Part.{Part}
 use Rattle.update_job.specs.change-set.declared.change.Part.TheVariants.{Whole, Relative}
 use Rattle.update_job.specs.change-set.declared.change.Carried.{Carried}

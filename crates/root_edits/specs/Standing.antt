@@ -11,10 +11,10 @@ use Rattle.update_job.specs.cny-base.declared.refusal.Refusal.{Refusal}
 use Rattle.update_job.specs.cny-base.declared.refusal.Refusal.TheVariants as refusal
 use Rattle.update_job.specs.cny-base.declared.refusal.What.TheVariants as what
 use Rattle.update_job.specs.cny-base.declared.stop.Stop.{Stop}
-use Rattle.update_job.specs.file-stream.declared.record.FileRec.{FileRec}
-use Rattle.update_job.specs.file-stream.declared.record.FileRec.TheVariants.{Dir, File, Link}
-use Rattle.update_job.specs.file-stream.Record.{flags_of, has_name_and_size}
-use Rattle.update_job.specs.file-stream.Owner.{OwnerNames, root_owner}
+use Rattle.update_job.specs.cny-stream.declared.record.FileRec.{FileRec}
+use Rattle.update_job.specs.cny-stream.declared.record.FileRec.TheVariants.{Dir, File, Link}
+use Rattle.update_job.specs.cny-stream.Record.{flags_of, has_name_and_size}
+use Rattle.update_job.specs.cny-stream.Owner.{OwnerNames, root_owner}
 use Rattle.update_job.specs.trove-parts.declared.files.FileAt.{FileAt}
 use Rattle.update_job.specs.change-set.declared.change.Carried.{Carried}
 use Rattle.tree_scan.specs.tree-disk.Tree.{Tree}

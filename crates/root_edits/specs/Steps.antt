@@ -16,7 +16,7 @@ use Rattle.update_job.specs.change-set.ChangeSet.{IsContentOf, IsPart}
 use Rattle.root_edits.specs.Moved.{local_id, local_size, AreLocalRefs}
 use Rattle.update_job.specs.trove-parts.declared.files.FileAt.{FileAt}
 use Rattle.update_job.specs.trove-stream.declared.parts.TroveParts.{TroveParts}
-use Rattle.change_rel.specs.Leads.{Leads}
+use Rattle.change_rel.specs.trove-stream.Leads.{Leads}
 use Rattle.update_job.specs.trove-stream.declared.rel.RelParts.{RelParts}
 use Rattle.update_job.specs.change-set.declared.change.Part.{Part}
 use Rattle.update_job.specs.change-set.declared.change.Part.TheVariants.{Relative}

@@ -3,8 +3,8 @@ use Rattle.std.specs.Prelude.{◌≡◌, ℕ, ◌-◌, ◌^◌, min, Bool, false
 use Rattle.std.specs.List.{cons_option, list_any}
 use Rattle.std.specs.Option.{option_map}
 use Rattle.std.specs.Str.{bytes_eq}
-use Rattle.update_job.specs.file-stream.declared.record.FileRec.{FileRec}
-use Rattle.update_job.specs.file-stream.declared.record.FileRec.TheVariants as rec
+use Rattle.update_job.specs.cny-stream.declared.record.FileRec.{FileRec}
+use Rattle.update_job.specs.cny-stream.declared.record.FileRec.TheVariants as rec
 use Rattle.update_job.specs.trove-parts.declared.files.FileAt.{FileAt}
 use Rattle.update_job.specs.trove-stream.declared.parts.TroveParts.{TroveParts}
 use Rattle.tree_scan.specs.tree-disk.Rows.{bytes_at}

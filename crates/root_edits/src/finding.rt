@@ -14,7 +14,7 @@ use std::alloc::Global;
 use tree_scan::tree_disk::TreeDisk;
 use tree_scan::{Finding, Found, Mark, differing, mark_at};
 use update_job::cny_base::{Copies, OutOfMemory, Path, Stop};
-use update_job::file_stream::FileRec;
+use update_job::cny_stream::FileRec;
 use update_job::trove_parts::FileAt;
 
 // Whether the fingerprint is as the record tells.

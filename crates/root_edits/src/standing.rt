@@ -2,8 +2,8 @@
 ghost use Rattle.std.specs.Prelude.{◌≡◌, ◌++◌, [], IfErr, IfOk, IsTrue, None, OnOk, Option, Some};
 ghost use Rattle.std.specs.FinMap.{get};
 ghost use Rattle.std.specs.List.{cons_option};
-ghost use Rattle.update_job.specs.file-stream.Owner.{root_owner};
-ghost use Rattle.update_job.specs.file-stream.Record.{has_name_and_size};
+ghost use Rattle.update_job.specs.cny-stream.Owner.{root_owner};
+ghost use Rattle.update_job.specs.cny-stream.Record.{has_name_and_size};
 ghost use Rattle.tree_scan.specs.tree-disk.declared.disk.Look.TheVariants as look;
 ghost use Rattle.tree_scan.specs.tree-disk.Rows.{look_of};
 ghost use Rattle.tree_scan.specs.tree-disk.Steps.{Tests};
@@ -21,7 +21,7 @@ use update_job::change_set::Carried;
 use update_job::cny_base::{
     Bytes, CONTENT_LIMIT, Copies, Mode, Node, OutOfMemory, Path, Refusal, Stop, TextFault, What,
 };
-use update_job::file_stream::{FileRec, Owner};
+use update_job::cny_stream::{FileRec, Owner};
 use update_job::trove_parts::{FileAt, Files};
 
 // ---- what stands

@@ -2,7 +2,7 @@
 use crate::manifests::manifest;
 use line_words::Answer;
 use line_words::cny_report::change_set;
-use line_words::cny_report::file_stream::{Encoding, decode_as};
+use line_words::cny_report::cny_stream::{Encoding, decode_as};
 use line_words::cny_report::trove_stream::{decode, decode_full, decode_rel, decode_rel_full};
 use std::alloc::Global;
 

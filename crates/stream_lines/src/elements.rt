@@ -5,7 +5,7 @@ use cny_stream::next_item;
 use line_words::Answer;
 use line_words::cny_dep::Dep;
 use line_words::cny_report::cny_base::{Bytes, Path, TextFault, next_str};
-use line_words::cny_report::file_stream::{Encoding, decode};
+use line_words::cny_report::cny_stream::{Encoding, decode};
 use line_words::cny_report::trove_parts::{
     FileAt, TroveId, next_id, put_deps, put_files, put_paths, put_refs,
 };

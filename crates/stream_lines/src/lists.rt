@@ -4,7 +4,7 @@ ghost use Rattle.std.specs.Prelude.{◌≤◌, length};
 use crate::again::{behind, push_compared};
 use crate::elements::{Element, elements, push_list};
 use line_words::cny_report::cny_base::{Copies, ListOf, Mode, Path};
-use line_words::cny_report::file_stream::{Encoding, FileRec, Flags, Owner};
+use line_words::cny_report::cny_stream::{Encoding, FileRec, Flags, Owner};
 use line_words::cny_report::trove_parts::{
     FileAt, TroveId, are_deps, are_files, are_paths, are_refs, put_id_item, take_deps, take_files,
     take_id_item, take_paths, take_refs,

@@ -18,7 +18,7 @@ mod sets;
 mod troves;
 
 use crate::changes::Asked;
-use line_words::cny_report::file_stream::Encoding;
+use line_words::cny_report::cny_stream::Encoding;
 use line_words::{Answer, Calls, Line, answer_all};
 use std::io;
 

@@ -3,7 +3,7 @@ use cny_manifest::{Made, component_of, read};
 use line_words::cny_dep::Dep;
 use line_words::cny_report::change_set::Carried;
 use line_words::cny_report::cny_base::{Copies, Mode};
-use line_words::cny_report::file_stream::{FileRec, Owner};
+use line_words::cny_report::cny_stream::{FileRec, Owner};
 use line_words::cny_report::trove_parts::FileAt;
 use line_words::cny_report::trove_stream::Trove;
 use line_words::{Answer, Line};

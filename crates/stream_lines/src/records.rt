@@ -1,11 +1,11 @@
 //! Calls on file records.
 ghost use Rattle.std.specs.Prelude.{◌↔◌, IsTrue, All};
-ghost use Rattle.line_words.specs.cny-report.file-stream.Record.{FitsSize};
+ghost use Rattle.line_words.specs.cny-report.cny-stream.Record.{FitsSize};
 ghost use Rattle.line_words.specs.cny-report.trove-parts.Files.{FitsFile};
 
 use crate::again::{behind, copy_of, push_compared};
 use line_words::cny_report::cny_base::{Bytes, CONTENT_LIMIT, Mode};
-use line_words::cny_report::file_stream::{
+use line_words::cny_report::cny_stream::{
     Encoding, FileRec, Flags, Owner, decode_as, decode_full, encode_as, file_id,
 };
 use line_words::cny_report::trove_parts::FileAt;

@@ -3,3 +3,17 @@ pub mod LinesRead
 pub mod MadeLists
 pub mod ModelPath
 pub mod ModelSizes
+pub mod Advanced
+pub mod Arranged
+pub mod Beside
+pub mod Completed
+pub mod Doubts
+pub mod Fits
+pub mod Gathering
+pub mod GrownRounds
+pub mod HeldByName
+pub mod NotedNames
+pub mod Regrown
+pub mod RoundEnds
+pub mod RoundLists
+pub mod Unerased

@@ -1,3 +1,10 @@
 pub mod Model
 pub mod Wanted
 pub mod RootModel
+pub mod Candidate
+pub mod Rounds
+pub mod Providers
+pub mod Fit
+pub mod Held
+pub mod Growing
+pub mod Advancing

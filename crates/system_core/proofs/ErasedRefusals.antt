@@ -8,9 +8,9 @@ use Rattle.rollback_stack.specs.cny-base.declared.stop.Stop.{Stop}
 use Rattle.rollback_stack.specs.cny-base.declared.stop.Stop.TheVariants.{Refused, Memory, Failed, Damaged, FarFailed, FarDamaged}
 use Rattle.rollback_stack.specs.change-set.declared.change.Carried.{Carried}
 use Rattle.rollback_stack.specs.content-store.Contents.{Answers}
-use Rattle.rollback_stack.specs.file-stream.declared.record.FileRec.{FileRec}
-use Rattle.rollback_stack.specs.file-stream.declared.record.FileRec.TheVariants as rec
-use Rattle.rollback_stack.specs.file-stream.Record.{is_dir}
+use Rattle.rollback_stack.specs.cny-stream.declared.record.FileRec.{FileRec}
+use Rattle.rollback_stack.specs.cny-stream.declared.record.FileRec.TheVariants as rec
+use Rattle.rollback_stack.specs.cny-stream.Record.{is_dir}
 use Rattle.rollback_stack.specs.trove-stream.declared.parts.TroveParts.{TroveParts}
 use Rattle.rollback_stack.specs.tree-disk.Disk.{DiskModel}
 use Rattle.rollback_stack.specs.tree-disk.Tree.{Tree}

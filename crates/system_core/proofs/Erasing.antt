@@ -12,8 +12,8 @@ use Rattle.std.specs.declared.cmp.Ordering.TheVariants.{Less}
 use Rattle.rollback_stack.specs.cny-base.Reserved.{is_pinned}
 use Rattle.rollback_stack.specs.cny-base.declared.options.Options.{Options}
 use Rattle.rollback_stack.specs.cny-base.declared.refusal.Refusal.TheVariants as refusal
-use Rattle.rollback_stack.specs.file-stream.declared.record.FileRec.{FileRec}
-use Rattle.rollback_stack.specs.file-stream.Record.{is_dir, flags_of}
+use Rattle.rollback_stack.specs.cny-stream.declared.record.FileRec.{FileRec}
+use Rattle.rollback_stack.specs.cny-stream.Record.{is_dir, flags_of}
 use Rattle.rollback_stack.specs.trove-parts.declared.files.FileAt.{FileAt}
 use Rattle.rollback_stack.specs.trove-parts.Files.{file_cmp}
 use Rattle.rollback_stack.specs.trove-stream.declared.parts.TroveParts.{TroveParts}

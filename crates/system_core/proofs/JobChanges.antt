@@ -5,7 +5,7 @@ use Rattle.std.specs.Str.{bytes_eq}
 use Rattle.std.proofs.lemmas.Bool.{cases_Bool, false≢true}
 use Rattle.std.proofs.lemmas.Slice.Eq.{bytes_eq-Decides}
 use Rattle.std.proofs.lemmas.List.Elements.{All-contains}
-use Rattle.rollback_stack.specs.file-stream.declared.encoding.Encoding.TheVariants.{Explicit}
+use Rattle.rollback_stack.specs.cny-stream.declared.encoding.Encoding.TheVariants.{Explicit}
 use Rattle.rollback_stack.specs.trove-stream.Installed.{trove_of}
 use Rattle.rollback_stack.proofs.trove-stream.Places.{found, missed}
 use Rattle.rollback_stack.specs.trove-stream.declared.parts.TroveParts.{TroveParts}

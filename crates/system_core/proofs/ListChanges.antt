@@ -11,8 +11,8 @@ use Rattle.std.proofs.lemmas.List.{flat_map_more, map_more, take_more}
 use Rattle.std.proofs.lemmas.List.Elements.{All-contains}
 use Rattle.rollback_stack.specs.cny-base.declared.refusal.Fault.{Fault}
 use Rattle.rollback_stack.specs.cny-base.declared.refusal.Fault.TheVariants.{Refused, Memory}
-use Rattle.rollback_stack.specs.file-stream.declared.encoding.Encoding.{Encoding}
-use Rattle.rollback_stack.specs.file-stream.declared.encoding.Encoding.TheVariants.{Compact}
+use Rattle.rollback_stack.specs.cny-stream.declared.encoding.Encoding.{Encoding}
+use Rattle.rollback_stack.specs.cny-stream.declared.encoding.Encoding.TheVariants.{Compact}
 use Rattle.rollback_stack.specs.trove-stream.Installed.{IsNameless, IsRising, trove_of}
 use Rattle.rollback_stack.specs.trove-stream.declared.parts.TroveParts.{TroveParts}
 use Rattle.rollback_stack.specs.trove-stream.Stream.{stream_bytes, trove_bytes}

@@ -11,7 +11,7 @@ use Rattle.rollback_stack.specs.cny-base.declared.refusal.Refusal.{Refusal}
 use Rattle.rollback_stack.specs.cny-base.declared.refusal.Refusal.TheVariants as refusal
 use Rattle.rollback_stack.specs.cny-base.declared.node.Node.{Node}
 use Rattle.rollback_stack.specs.cny-base.declared.node.Node.TheVariants as node
-use Rattle.rollback_stack.specs.file-stream.declared.record.FileRec.{FileRec}
+use Rattle.rollback_stack.specs.cny-stream.declared.record.FileRec.{FileRec}
 use Rattle.rollback_stack.specs.trove-stream.Trove.{IsTrove}
 use Rattle.rollback_stack.specs.trove-stream.declared.parts.TroveParts.{TroveParts}
 use Rattle.rollback_stack.specs.tree-disk.Tree.{Name, Tree, AgreesOutside, WellFormed, is_child, is_dir}

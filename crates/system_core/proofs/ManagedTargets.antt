@@ -8,8 +8,8 @@ use Rattle.rollback_stack.specs.cny-base.declared.refusal.Refusal.{Refusal}
 use Rattle.rollback_stack.specs.cny-base.declared.refusal.Refusal.TheVariants.{Collision, MissingContent, TooLarge}
 use Rattle.rollback_stack.specs.cny-base.declared.refusal.What.{What}
 use Rattle.rollback_stack.specs.change-set.declared.change.Carried.{Carried}
-use Rattle.rollback_stack.specs.file-stream.declared.record.FileRec.{FileRec}
-use Rattle.rollback_stack.specs.file-stream.declared.record.FileRec.TheVariants as rec
+use Rattle.rollback_stack.specs.cny-stream.declared.record.FileRec.{FileRec}
+use Rattle.rollback_stack.specs.cny-stream.declared.record.FileRec.TheVariants as rec
 use Rattle.rollback_stack.specs.trove-stream.declared.parts.TroveParts.{TroveParts}
 use Rattle.rollback_stack.specs.tree-disk.Rows.{bytes_of}
 use Rattle.rollback_stack.specs.tree-disk.Tree.{Tree, AgreesOutside}

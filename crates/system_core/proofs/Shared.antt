@@ -3,8 +3,8 @@ use Rattle.std.proofs.Common.{◌≡◌, ◌⊎◌, inl, inr, ℕ, Bool, true, f
 use Rattle.std.proofs.lemmas.List.Elements.{All-from_recursion}
 use Rattle.std.proofs.lemmas.List.Kept.{AllPairs-cons}
 use Rattle.std.specs.List.{All, AllByRecursion, AllPairs}
-use Rattle.rollback_stack.specs.file-stream.declared.record.FileRec.{FileRec}
-use Rattle.rollback_stack.specs.file-stream.Record.{is_dir}
+use Rattle.rollback_stack.specs.cny-stream.declared.record.FileRec.{FileRec}
+use Rattle.rollback_stack.specs.cny-stream.Record.{is_dir}
 use Rattle.rollback_stack.specs.trove-parts.declared.files.FileAt.{FileAt}
 use Rattle.rollback_stack.specs.trove-stream.declared.parts.TroveParts.{TroveParts}
 use Rattle.rollback_stack.proofs.tree-disk.Laws.{same_itself}

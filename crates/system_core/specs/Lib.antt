@@ -23,7 +23,7 @@ pub use Rattle.rollback_stack.specs.change-set
 pub use Rattle.rollback_stack.specs.cny-base
 pub use Rattle.conflict_plan.specs as conflict-plan
 pub use Rattle.rollback_stack.specs.content-store
-pub use Rattle.rollback_stack.specs.file-stream
+pub use Rattle.rollback_stack.specs.cny-stream
 pub use Rattle.rollback_stack.specs.job-record
 pub use Rattle.rollback_stack.specs.past-jobs
 pub use Rattle.job_targets.specs as job-targets

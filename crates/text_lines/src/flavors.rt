@@ -1,6 +1,6 @@
 //! Calls on flavors, and their score.
 use line_words::Answer;
-use line_words::cny_flavor::{Flag, Flavor, InstructionSet, Sense, score};
+use line_words::cny_dep::{Flavor, FlavorFlag, InstructionSet, Sense, score};
 
 fn sense_word(sense: Sense) -> &'static str {
     match sense {
@@ -12,7 +12,7 @@ fn sense_word(sense: Sense) -> &'static str {
 }
 
 // Each flag as its sense, its word and a semicolon.
-fn push_flags(flags: &[Flag], answer: &mut Answer) {
+fn push_flags(flags: &[FlavorFlag], answer: &mut Answer) {
     for flag in flags {
         answer.text(sense_word(flag.sense));
         answer.text(flag.word.get());

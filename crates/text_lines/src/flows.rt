@@ -1,6 +1,7 @@
 //! Calls on sources and sinks that give and take a part, and fail.
-use cny_flow::{FlowFault, MemorySink, MemorySource, Sink, Source, StdSink, StdSource};
-use line_words::cny_report::cny_base::{Bytes, Fails};
+use line_words::cny_report::cny_base::{
+    Bytes, Fails, FlowFault, MemorySink, MemorySource, Sink, Source, StdSink, StdSource,
+};
 use line_words::{Answer, Line};
 use std::io::{self, Read, Write};
 

@@ -1,8 +1,8 @@
 //! Calls that compare bytes.
 ghost use Rattle.std.specs.Prelude.{◌≡◌, length};
 
-use cny_lanes::{count_different, equal, first_difference};
 use line_words::Answer;
+use line_words::cny_report::cny_base::{count_different, equal, first_difference};
 
 // The place of the first difference, and how many there are.
 fn differences(first: &[u8], second: &[u8], answer: &mut Answer)

@@ -15,8 +15,7 @@ mod texts;
 mod troves;
 mod versions;
 
-use line_words::cny_dep::Dep;
-use line_words::cny_flavor::Flavor;
+use line_words::cny_dep::{Dep, Flavor};
 use line_words::cny_report::cny_base::{Name, Path, Target, Text, is_word, read_octal};
 use line_words::cny_report::trove_parts::TroveId;
 use line_words::cny_version::{Label, Version};

@@ -3,7 +3,7 @@ use Rattle.std.specs.Prelude.{◌==◌}
 use Rattle.std.proofs.Common.{◌≡◌, Bool, true, false, cond, not, ℕ, zero, suc, ◌+◌, ◌-◌, min, ◌≤◌, List, [], ◌∷◌, ◌++◌, length, take, take-add, drop, refl, sym, ◌∙◌, ap, arith}
 use Rattle.std.proofs.lemmas.List.{length-take, length-drop, take-take}
 use Rattle.std.proofs.lemmas.List.Sums.{sum_by-cons}
-use Rattle.cny_lanes.specs.Compare.{count_of_differing, differing}
+use Rattle.tree_disk.specs.cny-base.Compare.{count_of_differing, differing}
 use Rattle.tree_disk.proofs.cny-base.Lists.{rest_is}
 
 pub differing_none : (a : List ℕ) → count_of_differing a [] ≡ 0

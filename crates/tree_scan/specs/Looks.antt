@@ -1,7 +1,7 @@
 -- Fingerprints by what was seen.
 use Rattle.std.specs.Prelude.{ℕ, Bool, false, ◌==◌, List}
-use Rattle.file_stream.specs.declared.record.FileRec.{FileRec}
-use Rattle.file_stream.specs.declared.record.FileRec.TheVariants as rec
+use Rattle.cny_stream.specs.declared.record.FileRec.{FileRec}
+use Rattle.cny_stream.specs.declared.record.FileRec.TheVariants as rec
 use Rattle.tree_disk.specs.declared.disk.Look.{Look}
 use Rattle.tree_disk.specs.declared.disk.Look.TheVariants as look
 use Rattle.tree_scan.specs.declared.mark.Mark.{Mark}

@@ -5,8 +5,8 @@ use Rattle.std.specs.FinMap.{get}
 use Rattle.sha1.specs.Sha1.{sha1}
 use Rattle.tree_disk.specs.cny-base.declared.node.Node.{Node}
 use Rattle.tree_disk.specs.cny-base.declared.node.Node.TheVariants as node
-use Rattle.file_stream.specs.declared.record.FileRec.{FileRec}
-use Rattle.file_stream.specs.declared.record.FileRec.TheVariants as rec
+use Rattle.cny_stream.specs.declared.record.FileRec.{FileRec}
+use Rattle.cny_stream.specs.declared.record.FileRec.TheVariants as rec
 use Rattle.tree_disk.specs.Tree.{Name, Tree}
 use Rattle.tree_scan.specs.declared.mark.Mark.{Mark}
 use Rattle.tree_scan.specs.declared.mark.Mark.TheVariants.{Nothing, Dir, File, Link}

@@ -1,13 +1,12 @@
 //! In how many bytes a file differs from a content.
 ghost use Rattle.std.specs.Prelude.{◌≡◌, ◌<◌, ◌≤◌, ◌-◌, IfErr, IfOk, IsTrue, Ok, drop, length, min};
-ghost use Rattle.cny_lanes.specs.Compare.{count_of_differing};
+ghost use Rattle.tree_disk.specs.cny-base.Compare.{count_of_differing};
 ghost use Rattle.tree_disk.specs.Rows.{bytes_at, is_file_at};
 ghost use Rattle.tree_disk.specs.Steps.{IsDiskStop, Tests};
 ghost use Rattle.tree_scan.specs.Differing.{count_of_differing_bytes};
 
-use cny_lanes::count_different;
 use std::alloc::Global;
-use tree_disk::cny_base::{Path, Stop};
+use tree_disk::cny_base::{Path, Stop, count_different};
 use tree_disk::{TreeDisk, piece_room, room_for, steps};
 
 // How many bytes of a piece were read, and how many of them differ.

@@ -5,7 +5,7 @@ ghost use Rattle.tree_scan.specs.declared.mark.Mark.TheVariants as mark;
 ghost use Rattle.tree_scan.specs.Marks as spec;
 ghost use Rattle.tree_scan.specs.Marks.{fingerprint, fingerprint_of_record, same_mark};
 
-use file_stream::FileRec;
+use cny_stream::FileRec;
 use sha1::Sha1;
 use tree_disk::cny_base::{Copies, Mode, OutOfMemory, Target};
 

@@ -7,7 +7,7 @@ ghost use Rattle.tree_scan.specs.Marks.{fingerprint_at, matches_record};
 
 use crate::mark::Mark;
 use crate::pieces::hash_file;
-use file_stream::FileRec;
+use cny_stream::FileRec;
 use std::alloc::Global;
 use tree_disk::cny_base::{Path, Stop};
 use tree_disk::{Look, TreeDisk, steps};

@@ -6,11 +6,11 @@ use Rattle.std.proofs.lemmas.Bool.{false≢true}
 use Rattle.std.proofs.lemmas.List.Elements.{All-nil, All-cons, All-head, All-tail}
 use Rattle.cny_version.specs.cny-base.StrField.{str}
 use Rattle.cny_stream.specs.Item.{item_bytes}
-use Rattle.file_stream.specs.declared.encoding.Encoding.TheVariants.{Compact, Explicit}
-use Rattle.file_stream.specs.declared.record.FileRec.{FileRec}
-use Rattle.file_stream.specs.declared.record.FileRec.TheVariants as rec
-use Rattle.file_stream.specs.Owner.{OwnerNames, is_root}
-use Rattle.file_stream.specs.Record.{is_owned_by_root, worth, head, owner_bytes, names_owner, owned, record_bytes, flag_bits}
+use Rattle.cny_stream.specs.declared.encoding.Encoding.TheVariants.{Compact, Explicit}
+use Rattle.cny_stream.specs.declared.record.FileRec.{FileRec}
+use Rattle.cny_stream.specs.declared.record.FileRec.TheVariants as rec
+use Rattle.cny_stream.specs.Owner.{OwnerNames, is_root}
+use Rattle.cny_stream.specs.Record.{is_owned_by_root, worth, head, owner_bytes, names_owner, owned, record_bytes, flag_bits}
 use Rattle.trove_parts.specs.declared.files.FileAt.{FileAt}
 use Rattle.trove_parts.specs.Files.{file_value, files_bytes, HasOtherOwner}
 use Rattle.trove_parts.proofs.IdFields.{str_length}

@@ -14,9 +14,9 @@ use Rattle.std.proofs.Math.Seq.{drop-append_seam}
 use Rattle.cny_version.specs.cny-base.Name.{is_word_byte, is_word, is_colon, colon_place, begins_as_group, has_words, is_name}
 use Rattle.cny_version.specs.cny-base.StrField.{FitsStr, str}
 use Rattle.cny_version.proofs.cny-base.Utf8Laws.{name_ascii}
-use Rattle.cny_flavor.specs.declared.parts.Parts.{Parts}
-use Rattle.cny_flavor.specs.Canonical.{is_flavor, flavor_text}
-use Rattle.cny_flavor.proofs.Utf8.{flavor_ascii}
+use Rattle.cny_dep.specs.declared.parts.Parts.{Parts}
+use Rattle.cny_dep.specs.Canonical.{is_flavor, flavor_text}
+use Rattle.cny_dep.proofs.Utf8.{flavor_ascii}
 use Rattle.cny_version.specs.Version.{WholeVersion, IsVersion, version_text}
 use Rattle.trove_parts.specs.declared.id.TroveId.{TroveId}
 use Rattle.trove_parts.specs.declared.stream.PartSpans.{PartSpans}

@@ -13,8 +13,8 @@ use Rattle.cny_dep.specs.declared.class.Class.{Class}
 use Rattle.cny_dep.specs.declared.class.Class.TheVariants.{Abi, File, Trove, Soname, UserInfo, GroupInfo, Python, Perl}
 use Rattle.cny_dep.specs.Dep.{Dependency, IsDependency, class_text, flags_text, dep_text}
 use Rattle.cny_dep.specs.Part.{is_part_byte, is_dep_name, is_flag}
-use Rattle.file_stream.specs.declared.encoding.Encoding.{Encoding}
-use Rattle.file_stream.specs.Record.{record_bytes}
+use Rattle.cny_stream.specs.declared.encoding.Encoding.{Encoding}
+use Rattle.cny_stream.specs.Record.{record_bytes}
 use Rattle.trove_parts.specs.declared.files.FileAt.{FileAt}
 use Rattle.trove_parts.specs.Files.{IsFileAt, file_value}
 use Rattle.trove_parts.proofs.Lengths.{path_short}

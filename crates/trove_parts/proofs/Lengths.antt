@@ -15,11 +15,11 @@ use Rattle.cny_dep.specs.declared.class.Class.{Class}
 use Rattle.cny_dep.specs.declared.class.Class.TheVariants.{Abi, File, Trove, Soname, UserInfo, GroupInfo, Python, Perl}
 use Rattle.cny_dep.specs.Dep.{Dependency, IsDependency, class_text, flags_text, dep_text}
 use Rattle.cny_dep.specs.Part.{is_part_byte, is_dep_name, is_flag}
-use Rattle.file_stream.specs.declared.record.FileRec.{FileRec}
-use Rattle.file_stream.specs.declared.record.FileRec.TheVariants as rec
-use Rattle.file_stream.specs.declared.encoding.Encoding.{Encoding}
-use Rattle.file_stream.specs.Owner.{OwnerNames, is_owner_word, is_owner}
-use Rattle.file_stream.specs.Record.{IsFileRecord, flag_bits, head, owner_bytes, names_owner, owned, record_bytes}
+use Rattle.cny_stream.specs.declared.record.FileRec.{FileRec}
+use Rattle.cny_stream.specs.declared.record.FileRec.TheVariants as rec
+use Rattle.cny_stream.specs.declared.encoding.Encoding.{Encoding}
+use Rattle.cny_stream.specs.Owner.{OwnerNames, is_owner_word, is_owner}
+use Rattle.cny_stream.specs.Record.{IsFileRecord, flag_bits, head, owner_bytes, names_owner, owned, record_bytes}
 use Rattle.trove_parts.specs.declared.files.FileAt.{FileAt}
 use Rattle.trove_parts.specs.Files.{IsFileAt, file_value}
 use Rattle.trove_parts.proofs.IdFields.{str_length}

@@ -12,7 +12,7 @@ pub mod OneList
 pub mod Encodings
 pub mod ItemsLaws
 pub use Rattle.cny_version.proofs.cny-base
-pub use Rattle.file_stream.proofs as file-stream
+pub use Rattle.cny_stream.proofs as cny-stream
 pub mod Counts
 pub mod Orders
 pub mod Sizes

@@ -1,6 +1,6 @@
 -- The text of an id, cut at its `=` and its brackets.
 use Rattle.std.proofs.Common.{◌≡◌, ℕ, List, ◌∷◌, ◌++◌, sym, ap, ◌∙◌}
-use Rattle.cny_flavor.specs.Canonical.{flavor_text}
+use Rattle.cny_dep.specs.Canonical.{flavor_text}
 use Rattle.cny_version.specs.Version.{version_text}
 use Rattle.trove_parts.specs.declared.id.TroveId.{TroveId}
 use Rattle.trove_parts.specs.Id.{IsTroveId, in_brackets, id_text_of}

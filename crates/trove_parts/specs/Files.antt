@@ -5,8 +5,8 @@ use Rattle.std.specs.Ordering.{nat_cmp}
 use Rattle.std.specs.declared.cmp.Ordering.{Ordering}
 use Rattle.cny_version.specs.cny-base.Path.{is_path}
 use Rattle.cny_version.specs.cny-base.StrField.{str}
-use Rattle.file_stream.specs.declared.encoding.Encoding.{Encoding}
-use Rattle.file_stream.specs.Record.{FitsSize, IsFileRecord, is_owned_by_root, record_bytes}
+use Rattle.cny_stream.specs.declared.encoding.Encoding.{Encoding}
+use Rattle.cny_stream.specs.Record.{FitsSize, IsFileRecord, is_owned_by_root, record_bytes}
 use Rattle.trove_parts.specs.declared.files.FileAt.{FileAt}
 use Rattle.trove_parts.specs.Items.{items_bytes, IsRisingList}
 

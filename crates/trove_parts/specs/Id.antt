@@ -2,7 +2,7 @@
 use Rattle.std.specs.Prelude.{◌≡◌, ℕ, ◌≤◌, true, IsTrue, List, [], ◌∷◌, ◌++◌, length, drop}
 use Rattle.cny_version.specs.cny-base.Name.{is_name}
 use Rattle.cny_version.specs.cny-base.StrField.{str}
-use Rattle.cny_flavor.specs.Canonical.{is_flavor, flavor_text}
+use Rattle.cny_dep.specs.Canonical.{is_flavor, flavor_text}
 use Rattle.cny_version.specs.Version.{IsVersion, version_text}
 use Rattle.trove_parts.specs.declared.id.TroveId.{TroveId}
 

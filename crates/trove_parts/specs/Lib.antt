@@ -8,5 +8,5 @@ pub mod Deps
 pub mod Paths
 pub mod Places
 pub use Rattle.cny_version.specs.cny-base
-pub use Rattle.cny_flavor.specs as cny-flavor
-pub use Rattle.file_stream.specs as file-stream
+pub use Rattle.cny_dep.specs as cny-dep
+pub use Rattle.cny_stream.specs as cny-stream

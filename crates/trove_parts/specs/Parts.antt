@@ -1,7 +1,7 @@
 -- The texts of an id's parts, and where they stand in a text or in a stream.
 use Rattle.std.specs.Prelude.{◌≡◌, ℕ, ◌<◌, ◌≤◌, List, ◌++◌, length, drop, slice_index, slice_range}
 use Rattle.cny_version.specs.cny-base.StrField.{FitsStr, str}
-use Rattle.cny_flavor.specs.Canonical.{flavor_text}
+use Rattle.cny_dep.specs.Canonical.{flavor_text}
 use Rattle.cny_version.specs.Version.{version_text}
 use Rattle.trove_parts.specs.declared.id.TroveId.{TroveId}
 use Rattle.trove_parts.specs.declared.stream.PartSpans.{PartSpans}

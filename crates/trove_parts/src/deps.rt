@@ -9,9 +9,8 @@ ghost use Rattle.trove_parts.specs.Deps.{AreDeps, deps_bytes};
 
 use crate::items::{Element, are_listed, put_items, take_items};
 use cny_dep::Dep;
-use cny_stream::put_item;
+use cny_stream::{Encoding, put_item};
 use cny_version::cny_base::{Bytes, ListOf, OutOfMemory, TextFault};
-use file_stream::Encoding;
 use std::alloc::Global;
 
 /// A list of dependencies.

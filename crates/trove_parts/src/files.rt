@@ -7,11 +7,10 @@ ghost use Rattle.trove_parts.specs.Items.{BeginsWithItems, AreItemsAt, IsWithin}
 ghost use Rattle.trove_parts.specs.Files.{IsFileAt, FitsFile, path_of, file_value, file_cmp, AreFiles, files_bytes};
 
 use crate::items::{Element, are_listed, put_items, take_items};
-use cny_stream::put_item;
+use cny_stream::{Encoding, FileRec, decode_as, distinct_records, encode_as, put_item};
 use cny_version::cny_base::{
     Bytes, Copies, ListOf, OutOfMemory, Path, TextFault, next_str, put_str,
 };
-use file_stream::{Encoding, FileRec, decode_as, distinct_records, encode_as};
 use std::alloc::Global;
 
 /// What a trove records of one path.

@@ -6,7 +6,7 @@ ghost use Rattle.trove_parts.specs.declared.id.TroveId.{TroveId};
 ghost use Rattle.trove_parts.specs.Id.{IsTroveId, id_text_of, id_bytes};
 ghost use Rattle.trove_parts.specs.Order.{id_eq, id_cmp, id_equiv, id_total, id_po, id_ties};
 
-use cny_flavor::{Flavor, one_text};
+use cny_dep::{Flavor, one_text};
 use cny_version::cny_base::{Copies, Name, OutOfMemory};
 use cny_version::{Version, distinct_texts};
 use std::cmp::Ordering;

@@ -5,12 +5,11 @@ ghost use Rattle.std.specs.List.Sorted.{IsStrictlySortedBy};
 ghost use Rattle.std.specs.Ordering.{is_lt};
 ghost use Rattle.std.specs.declared.cmp.Ordering.{Ordering};
 ghost use Rattle.cny_stream.specs.Item.{FitsItem, item_bytes};
-ghost use Rattle.file_stream.specs.declared.encoding.Encoding.{Encoding};
+ghost use Rattle.cny_stream.specs.declared.encoding.Encoding.{Encoding};
 ghost use Rattle.trove_parts.specs.Items.{items_bytes, begins_with_tag, IsRisingList, IsWithin, BeginsWithItems, AreItemsAt, IsValueAt, AreOfOneList};
 
-use cny_stream::next_item;
+use cny_stream::{Encoding, next_item};
 use cny_version::cny_base::{Bytes, OutOfMemory, TextFault};
-use file_stream::Encoding;
 use std::alloc::Global;
 
 /// An element of a list that a stream holds as items.

@@ -1,8 +1,8 @@
 //! Bytes begin with the items of one list at most, and files have one list of items in both encodings or two.
 ghost use Rattle.std.specs.Prelude.{◌≡◌, ◌↔◌, List, ℕ, All};
 ghost use Rattle.cny_dep.specs.Dep.{IsDependency, dep_text};
-ghost use Rattle.file_stream.specs.declared.encoding.Encoding.{Encoding};
-ghost use Rattle.file_stream.specs.declared.encoding.Encoding.TheVariants.{Compact, Explicit};
+ghost use Rattle.cny_stream.specs.declared.encoding.Encoding.{Encoding};
+ghost use Rattle.cny_stream.specs.declared.encoding.Encoding.TheVariants.{Compact, Explicit};
 ghost use Rattle.trove_parts.specs.Id.{IsTroveId, id_bytes};
 ghost use Rattle.trove_parts.specs.declared.files.FileAt.{FileAt};
 ghost use Rattle.trove_parts.specs.Files.{IsFileAt, HasOtherOwner, file_value, files_bytes};
@@ -13,8 +13,8 @@ use crate::files::FileAt;
 use crate::id::TroveId;
 use crate::items::one_list;
 use cny_dep::Dep;
+use cny_stream::distinct_records;
 use cny_version::cny_base::Path;
-use file_stream::distinct_records;
 
 /// No bytes begin with the items of two lists of files, whichever the encodings of both, of two lists of ids, of
 /// dependencies, or of paths. The items of files are equal in both encodings exactly where root owns no directory and no

@@ -14,9 +14,9 @@ mod refs;
 mod stream;
 mod text;
 
+pub use cny_stream;
 pub use cny_version::cny_base;
 pub use deps::{Deps, DepsAt, are_deps, put_deps, take_deps};
-pub use file_stream;
 pub use files::{FileAt, Files, FilesAt, are_files, put_files, take_files};
 pub use id::{TroveId, distinct_ids, short_ids};
 pub use laws::distinct_lists;

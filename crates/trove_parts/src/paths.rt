@@ -5,9 +5,8 @@ ghost use Rattle.trove_parts.specs.Items.{BeginsWithItems, AreItemsAt};
 ghost use Rattle.trove_parts.specs.Paths.{IsPath, path_value, path_cmp, ArePaths, paths_bytes};
 
 use crate::items::{Element, are_listed, put_items, take_items};
-use cny_stream::put_item;
+use cny_stream::{Encoding, put_item};
 use cny_version::cny_base::{Bytes, OutOfMemory, Path, Paths, TextFault};
-use file_stream::Encoding;
 use std::alloc::Global;
 
 impl Element for Path {

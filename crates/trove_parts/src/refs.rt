@@ -10,9 +10,8 @@ ghost use Rattle.trove_parts.specs.Refs.{AreRefs, refs_bytes};
 use crate::id::{TroveId, distinct_ids, short_ids};
 use crate::items::{Element, are_listed, put_items, take_item, take_items};
 use crate::stream::{IdAt, next_id, put_id};
-use cny_stream::put_item;
+use cny_stream::{Encoding, put_item};
 use cny_version::cny_base::{Bytes, ListOf, OutOfMemory, TextFault};
-use file_stream::Encoding;
 use std::alloc::Global;
 
 /// A list of ids.

@@ -7,7 +7,7 @@ ghost use Rattle.trove_parts.specs.Id.{IsTroveId, in_brackets, id_text_of};
 ghost use Rattle.trove_parts.specs.Parts.{AreTextsOf, IsCutAtBracket};
 
 use crate::id::TroveId;
-use cny_flavor::Flavor;
+use cny_dep::Flavor;
 use cny_version::Version;
 use cny_version::cny_base::{Name, OutOfMemory, Text, TextFault};
 use std::alloc::Global;

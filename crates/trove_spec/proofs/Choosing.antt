@@ -2,7 +2,7 @@
 use Rattle.std.proofs.Common.{◌≡◌, ℕ, Bool, true, false, cond, ◌&&◌, List, [], ◌∷◌, ◌++◌, filter, slice_get, Option, Some, None, refl, ap, ◌∙◌, append-nil, option_and_then}
 use Rattle.std.specs.List.{last_or, cons_option}
 use Rattle.std.proofs.lemmas.Grind.{fold-append}
-use Rattle.cny_flavor.specs.declared.parts.Parts.{Parts}
+use Rattle.cny_dep.specs.declared.parts.Parts.{Parts}
 use Rattle.cny_version.specs.Label.{LabelParts}
 use Rattle.cny_version.specs.Version.{WholeVersion}
 use Rattle.repo_index.specs.trove-stream.declared.parts.TroveParts.{TroveParts}

@@ -8,8 +8,8 @@ use Rattle.std.specs.Cmp.Lexicographic.{pointwise}
 use Rattle.std.specs.Prelude.{Err, IsErrOf, nat_eq, ◌&&◌}
 use Rattle.repo_index.specs.cny-base.declared.text.TextFault.{TextFault}
 use Rattle.repo_index.specs.cny-base.declared.text.TextFault.TheVariants.{Bad}
-use Rattle.cny_flavor.specs.declared.parts.Parts.{Parts}
-use Rattle.cny_flavor.specs.Spelling.{IsRelaxedText, IsReadAs}
+use Rattle.cny_dep.specs.declared.parts.Parts.{Parts}
+use Rattle.cny_dep.specs.Spelling.{IsRelaxedText, IsReadAs}
 use Rattle.trove_spec.specs.declared.config.Config.{Config}
 use Rattle.trove_spec.specs.declared.config.Setting.TheVariants.{Skipped, LabelPath, SystemFlavor}
 use Rattle.trove_spec.specs.declared.config.Setting.{Setting}

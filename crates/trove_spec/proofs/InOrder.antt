@@ -13,7 +13,7 @@ use Rattle.std.proofs.lemmas.List.Elements.{recursion_from_All, All-contains, Al
 use Rattle.std.proofs.lemmas.List.Sorted.{Contains-permutation, IsPermutation-sym, ranks_by}
 use Rattle.std.proofs.lemmas.Map.Keys.{IsDistinct-head, IsDistinct-tail, IsDistinct-cons, IsDistinct-IsPermutation, apart_from_distinct, sorted_from_all_adjacent, Less-from_sorted}
 use Rattle.std.proofs.lemmas.Option.{none-some}
-use Rattle.cny_flavor.specs.Canonical.{flavor_text}
+use Rattle.cny_dep.specs.Canonical.{flavor_text}
 use Rattle.cny_version.specs.Version.{version_text}
 use Rattle.repo_index.specs.trove-parts.declared.id.TroveId.{TroveId}
 use Rattle.repo_index.specs.trove-parts.Order.{id_eq, id_cmp, id_equiv, id_total, id_ties}

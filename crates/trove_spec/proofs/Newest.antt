@@ -8,7 +8,7 @@ use Rattle.std.specs.Str.{bytes_eq}
 use Rattle.std.specs.Cmp.{int_cmp_total}
 use Rattle.std.proofs.lemmas.Cmp.{on_total, then_total, back_total, tied_itself}
 use Rattle.std.proofs.lemmas.List.Elements.{All-nil, All-cons, All-head, All-tail, All-filter, filter_passes, All-contains_itself}
-use Rattle.cny_flavor.specs.declared.parts.Parts.{Parts}
+use Rattle.cny_dep.specs.declared.parts.Parts.{Parts}
 use Rattle.cny_version.specs.Version.{WholeVersion, version_text}
 use Rattle.repo_index.specs.trove-stream.declared.parts.TroveParts.{TroveParts}
 use Rattle.trove_spec.specs.Resolve.{points, flavor_of, fit_cmp, is_better, better_of, best, has_version, of_version, chosen_of}

@@ -2,7 +2,7 @@
 use Rattle.std.proofs.Common.{◌≡◌, ℕ, ◌⊎◌, ⊎_elim, inl, inr, Bool, true, List, [], ◌∷◌, filter, Contains, Option, Some, None}
 use Rattle.std.proofs.lemmas.List.Elements.{All-contains, All-filter, All-contains_itself, filter_passes}
 use Rattle.std.proofs.lemmas.Option.{none-some}
-use Rattle.cny_flavor.specs.declared.parts.Parts.{Parts}
+use Rattle.cny_dep.specs.declared.parts.Parts.{Parts}
 use Rattle.cny_version.specs.Label.{LabelParts}
 use Rattle.cny_version.specs.Version.{WholeVersion}
 use Rattle.repo_index.specs.trove-stream.declared.parts.TroveParts.{TroveParts}

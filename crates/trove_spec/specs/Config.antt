@@ -6,8 +6,8 @@ use Rattle.repo_index.specs.cny-base.Below.{begins_with}
 use Rattle.repo_index.specs.cny-base.declared.refusal.Fault.{Fault}
 use Rattle.repo_index.specs.cny-base.declared.refusal.Fault.TheVariants.{Refused, Memory}
 use Rattle.repo_index.specs.cny-base.declared.refusal.Refusal.TheVariants as refusal
-use Rattle.cny_flavor.specs.Canonical.{no_parts}
-use Rattle.cny_flavor.specs.Spelling.{IsRelaxedText}
+use Rattle.cny_dep.specs.Canonical.{no_parts}
+use Rattle.cny_dep.specs.Spelling.{IsRelaxedText}
 use Rattle.cny_version.specs.Label.{LabelParts, label_text, is_label}
 use Rattle.trove_spec.specs.declared.config.Config.{Config}
 use Rattle.trove_spec.specs.declared.config.Setting.{Setting}

@@ -10,9 +10,9 @@ use Rattle.repo_index.specs.cny-base.declared.refusal.Fault.{Fault}
 use Rattle.repo_index.specs.cny-base.declared.refusal.Fault.TheVariants.{Refused, Memory}
 use Rattle.repo_index.specs.cny-base.declared.refusal.Refusal.{Refusal}
 use Rattle.repo_index.specs.cny-base.declared.refusal.Refusal.TheVariants as refusal
-use Rattle.cny_flavor.specs.declared.parts.Parts.{Parts}
-use Rattle.cny_flavor.specs.Canonical.{flavor_text}
-use Rattle.cny_flavor.specs.Score.{flavor_score}
+use Rattle.cny_dep.specs.declared.parts.Parts.{Parts}
+use Rattle.cny_dep.specs.Canonical.{flavor_text}
+use Rattle.cny_dep.specs.Score.{flavor_score}
 use Rattle.cny_version.specs.Label.{LabelParts, label_text}
 use Rattle.cny_version.specs.Version.{WholeVersion, last_label, version_text}
 use Rattle.repo_index.specs.trove-stream.declared.parts.TroveParts.{TroveParts}

@@ -3,8 +3,8 @@ use Rattle.std.specs.Prelude.{◌≡◌, ℕ, Bool, false, ◌==◌, IsTrue, Lis
 use Rattle.repo_index.specs.cny-base.Name.{is_name}
 use Rattle.repo_index.specs.cny-base.declared.text.TextFault.{TextFault}
 use Rattle.repo_index.specs.cny-base.declared.text.TextFault.TheVariants as fault
-use Rattle.cny_flavor.specs.declared.parts.Parts.{Parts}
-use Rattle.cny_flavor.specs.Spelling.{IsRelaxedText}
+use Rattle.cny_dep.specs.declared.parts.Parts.{Parts}
+use Rattle.cny_dep.specs.Spelling.{IsRelaxedText}
 use Rattle.cny_version.specs.Label.{label_text, is_label}
 use Rattle.cny_version.specs.Version.{IsVersion}
 use Rattle.cny_version.specs.Filled.{IsAbbreviationOf}

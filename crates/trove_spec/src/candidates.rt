@@ -6,7 +6,7 @@ ghost use Rattle.repo_index.specs.Places.{troves_at};
 ghost use Rattle.trove_spec.specs.Resolve as spec;
 ghost use Rattle.trove_spec.specs.Resolve.{candidates_of, best, kept};
 
-use cny_flavor::{Flavor, score};
+use cny_dep::{Flavor, score};
 use cny_version::{Label, Version};
 use repo_index::Catalogue;
 use repo_index::trove_stream::Trove;

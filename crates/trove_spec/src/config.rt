@@ -11,7 +11,7 @@ ghost use Rattle.trove_spec.specs.declared.config.Config.{Config};
 ghost use Rattle.trove_spec.specs.declared.config.Setting.{Setting};
 
 use crate::line::{behind, pieces_of, trim_front, trimmed};
-use cny_flavor::Flavor;
+use cny_dep::Flavor;
 use cny_version::{Label, distinct_texts};
 use repo_index::cny_base::{
     Copies, Fault, ListOf, OutOfMemory, Refusal, TextFault, copies_of, text_of,

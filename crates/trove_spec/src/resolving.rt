@@ -2,7 +2,7 @@
 ghost use Rattle.std.specs.Prelude.{◌≡◌, true, false, List, [], Some, None, All, Contains, IfOk, IfErr};
 ghost use Rattle.std.specs.List.{last_or};
 ghost use Rattle.std.specs.Option.{option_copied, option_map};
-ghost use Rattle.cny_flavor.specs.declared.parts.Parts.{Parts};
+ghost use Rattle.cny_dep.specs.declared.parts.Parts.{Parts};
 ghost use Rattle.repo_index.specs.trove-stream.declared.parts.TroveParts.{TroveParts};
 ghost use Rattle.trove_spec.specs.declared.config.Config.{Config};
 ghost use Rattle.trove_spec.specs.declared.spec.Spec.{Spec};
@@ -11,7 +11,7 @@ ghost use Rattle.trove_spec.specs.Resolve.{chosen, chosen_of, has_version, is_be
 use crate::candidates::{best_candidate, last_candidate};
 use crate::config::Config;
 use crate::spec::{Place, Spec};
-use cny_flavor::Flavor;
+use cny_dep::Flavor;
 use cny_version::{Label, Version};
 use repo_index::Catalogue;
 use repo_index::cny_base::{Copies, Fault, Name, Refusal, Text};

@@ -1,13 +1,13 @@
 //! Specifications and their texts.
 ghost use Rattle.std.specs.Prelude.{◌≡◌, true, false, List, ℕ, Option, IfOk, IfSome, IfNone};
 ghost use Rattle.std.specs.Option.{option_copied};
-ghost use Rattle.cny_flavor.specs.declared.parts.Parts.{Parts};
+ghost use Rattle.cny_dep.specs.declared.parts.Parts.{Parts};
 ghost use Rattle.trove_spec.specs.declared.spec.Spec.{Spec};
 ghost use Rattle.trove_spec.specs.declared.spec.Place.{Place};
 ghost use Rattle.trove_spec.specs.Spec as spec;
 ghost use Rattle.trove_spec.specs.Spec.{IsSpecText, ArePartsOf, IsPlaceText, IsFlavorText, IsCutAtEquals, IsCutAtBracket, IsReadAs};
 
-use cny_flavor::Flavor;
+use cny_dep::Flavor;
 use cny_version::{Label, Version};
 use repo_index::cny_base::{Copies, Name, OutOfMemory, TextFault};
 use std::alloc::Global;

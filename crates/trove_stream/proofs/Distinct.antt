@@ -1,6 +1,6 @@
 -- Streams tell troves apart.
 use Rattle.std.proofs.Common.{◌≡◌}
-use Rattle.trove_parts.specs.file-stream.declared.encoding.Encoding.{Encoding}
+use Rattle.trove_parts.specs.cny-stream.declared.encoding.Encoding.{Encoding}
 use Rattle.trove_stream.specs.Stream.{stream_bytes}
 use Rattle.trove_stream.specs.Trove.{IsTrove}
 use Rattle.trove_stream.specs.declared.parts.TroveParts.{TroveParts}

@@ -4,7 +4,7 @@ use Rattle.std.specs.Int.{w32, to_be_bytes}
 use Rattle.std.proofs.Math.Seq.{drop-append_seam}
 use Rattle.std.proofs.lemmas.List.{drop-drop}
 use Rattle.trove_parts.specs.cny-base.StrField.{str}
-use Rattle.trove_parts.specs.cny-flavor.Canonical.{flavor_text}
+use Rattle.trove_parts.specs.cny-dep.Canonical.{flavor_text}
 use Rattle.cny_stream.specs.Item.{item_bytes}
 use Rattle.cny_stream.proofs.ItemLaws.{same_item}
 use Rattle.cny_version.specs.Version.{version_text}

@@ -3,7 +3,7 @@ use Rattle.std.proofs.Common.{◌≡◌, ℕ, false, List, [], ◌∷◌, ◌++�
 use Rattle.std.specs.Prelude.{◌==◌}
 use Rattle.std.proofs.lemmas.List.{length-drop}
 use Rattle.cny_dep.specs.Dep.{dep_text}
-use Rattle.trove_parts.specs.file-stream.declared.encoding.Encoding.{Encoding}
+use Rattle.trove_parts.specs.cny-stream.declared.encoding.Encoding.{Encoding}
 use Rattle.trove_parts.specs.Id.{id_bytes}
 use Rattle.trove_parts.specs.Deps.{deps_bytes}
 use Rattle.trove_parts.specs.Files.{file_value, files_bytes}

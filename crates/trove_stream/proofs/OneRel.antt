@@ -4,8 +4,8 @@ use Rattle.std.proofs.lemmas.List.{append_cancel_left}
 use Rattle.cny_dep.specs.Dep.{IsDependency, dep_text}
 use Rattle.cny_stream.specs.Item.{item_bytes}
 use Rattle.cny_stream.proofs.ItemLaws.{same_item}
-use Rattle.trove_parts.specs.file-stream.declared.encoding.Encoding.{Encoding}
-use Rattle.trove_parts.specs.file-stream.declared.encoding.Encoding.TheVariants.{Compact, Explicit}
+use Rattle.trove_parts.specs.cny-stream.declared.encoding.Encoding.{Encoding}
+use Rattle.trove_parts.specs.cny-stream.declared.encoding.Encoding.TheVariants.{Compact, Explicit}
 use Rattle.trove_parts.specs.declared.id.TroveId.{TroveId}
 use Rattle.trove_parts.specs.Id.{IsTroveId, id_bytes}
 use Rattle.trove_parts.specs.declared.files.FileAt.{FileAt}

@@ -1,12 +1,12 @@
 -- A stream is that of one trove, and the streams in both encodings.
 use Rattle.std.proofs.Common.{◌≡◌, ◌↔◌, ℕ, ◌≤◌, List, [], ◌++◌, length, All, refl, sym, ap, ◌∙◌, append-nil}
 use Rattle.cny_dep.specs.Dep.{IsDependency, dep_text}
-use Rattle.trove_parts.specs.cny-flavor.Canonical.{flavor_text}
+use Rattle.trove_parts.specs.cny-dep.Canonical.{flavor_text}
 use Rattle.cny_stream.specs.Item.{item_bytes}
 use Rattle.cny_stream.proofs.ItemLaws.{same_item}
 use Rattle.cny_version.specs.Version.{version_text}
-use Rattle.trove_parts.specs.file-stream.declared.encoding.Encoding.{Encoding}
-use Rattle.trove_parts.specs.file-stream.declared.encoding.Encoding.TheVariants.{Compact, Explicit}
+use Rattle.trove_parts.specs.cny-stream.declared.encoding.Encoding.{Encoding}
+use Rattle.trove_parts.specs.cny-stream.declared.encoding.Encoding.TheVariants.{Compact, Explicit}
 use Rattle.trove_parts.specs.declared.id.TroveId.{TroveId}
 use Rattle.trove_parts.specs.Id.{IsTroveId, id_bytes}
 use Rattle.trove_parts.specs.Parts.{three_strs}

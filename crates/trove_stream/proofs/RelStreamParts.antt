@@ -3,7 +3,7 @@ use Rattle.std.proofs.Common.{◌≡◌, ℕ, ◌+◌, ◌<◌, false, List, [],
 use Rattle.std.proofs.lemmas.Bool.Decides.{nat_tests}
 use Rattle.cny_dep.specs.Dep.{dep_text}
 use Rattle.cny_stream.specs.Item.{item_bytes}
-use Rattle.trove_parts.specs.file-stream.declared.encoding.Encoding.{Encoding}
+use Rattle.trove_parts.specs.cny-stream.declared.encoding.Encoding.{Encoding}
 use Rattle.trove_parts.specs.declared.id.TroveId.{TroveId}
 use Rattle.trove_parts.specs.Id.{id_bytes}
 use Rattle.trove_parts.specs.Items.{items_bytes, begins_with_tag, BeginsWithItems, AreItemsAt, IsValueAt}

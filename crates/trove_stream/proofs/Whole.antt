@@ -2,7 +2,7 @@
 use Rattle.std.proofs.Common.{◌≡◌, ℕ, List, [], ◌++◌, length, drop, ap, ◌∙◌, arith, append-nil}
 use Rattle.std.proofs.lemmas.List.{drop_all}
 use Rattle.cny_dep.specs.Dep.{dep_text}
-use Rattle.trove_parts.specs.file-stream.declared.encoding.Encoding.{Encoding}
+use Rattle.trove_parts.specs.cny-stream.declared.encoding.Encoding.{Encoding}
 use Rattle.trove_parts.specs.Id.{id_bytes}
 use Rattle.trove_parts.specs.Files.{file_value}
 use Rattle.trove_parts.specs.Paths.{path_value}

@@ -4,7 +4,7 @@ use Rattle.trove_parts.specs.cny-base.Reserved.{is_forbidden}
 use Rattle.trove_parts.specs.cny-base.declared.refusal.Fault.{Fault}
 use Rattle.trove_parts.specs.cny-base.declared.refusal.Fault.TheVariants.{Refused, Memory}
 use Rattle.trove_parts.specs.cny-base.declared.refusal.Refusal.TheVariants.{Reserved}
-use Rattle.trove_parts.specs.file-stream.Record.{is_dir}
+use Rattle.trove_parts.specs.cny-stream.Record.{is_dir}
 use Rattle.trove_parts.specs.declared.files.FileAt.{FileAt}
 use Rattle.trove_stream.specs.declared.parts.TroveParts.{TroveParts}
 

@@ -8,9 +8,11 @@ pub mod Rel
 pub mod RelBytes
 pub mod Pairs
 pub mod Installed
+pub mod Amends
+pub mod Leads
 pub use Rattle.trove_parts.specs.cny-base
-pub use Rattle.trove_parts.specs.cny-flavor
-pub use Rattle.trove_parts.specs.file-stream
+pub use Rattle.trove_parts.specs.cny-dep
+pub use Rattle.trove_parts.specs.cny-stream
 pub use Rattle.trove_parts.specs as trove-parts
 pub mod NameOrder
 pub mod Either

@@ -1,8 +1,8 @@
 -- The bytes of relative troves.
 use Rattle.std.specs.Prelude.{◌≡◌, ℕ, List, ◌++◌}
 use Rattle.cny_stream.specs.Item.{item_bytes}
-use Rattle.trove_parts.specs.file-stream.declared.encoding.Encoding.{Encoding}
-use Rattle.trove_parts.specs.file-stream.declared.encoding.Encoding.TheVariants.{Compact, Explicit}
+use Rattle.trove_parts.specs.cny-stream.declared.encoding.Encoding.{Encoding}
+use Rattle.trove_parts.specs.cny-stream.declared.encoding.Encoding.TheVariants.{Compact, Explicit}
 use Rattle.trove_parts.specs.Id.{id_bytes}
 use Rattle.trove_parts.specs.Files.{files_bytes}
 use Rattle.trove_parts.specs.Paths.{paths_bytes}

@@ -1,10 +1,10 @@
 -- The stream of a trove, as a function of it.
 use Rattle.std.specs.Prelude.{◌≡◌, ℕ, ◌≤◌, List, ◌++◌, length, drop}
-use Rattle.trove_parts.specs.cny-flavor.Canonical.{flavor_text}
+use Rattle.trove_parts.specs.cny-dep.Canonical.{flavor_text}
 use Rattle.cny_stream.specs.Item.{item_bytes}
 use Rattle.cny_version.specs.Version.{version_text}
-use Rattle.trove_parts.specs.file-stream.declared.encoding.Encoding.{Encoding}
-use Rattle.trove_parts.specs.file-stream.declared.encoding.Encoding.TheVariants.{Compact, Explicit}
+use Rattle.trove_parts.specs.cny-stream.declared.encoding.Encoding.{Encoding}
+use Rattle.trove_parts.specs.cny-stream.declared.encoding.Encoding.TheVariants.{Compact, Explicit}
 use Rattle.trove_parts.specs.declared.id.TroveId.{TroveId}
 use Rattle.trove_parts.specs.Id.{IsTroveId}
 use Rattle.trove_parts.specs.Deps.{deps_bytes}

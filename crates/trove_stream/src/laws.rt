@@ -1,9 +1,11 @@
-//! Bytes are the stream of one trove at most, and a trove has one stream in both encodings or two.
+//! Bytes are the stream of one trove at most, a trove has one stream in both encodings or two, and a relative trove leads to one trove.
 ghost use Rattle.std.specs.Prelude.{◌≡◌, ◌↔◌, All};
-ghost use Rattle.trove_parts.specs.file-stream.declared.encoding.Encoding.{Encoding};
-ghost use Rattle.trove_parts.specs.file-stream.declared.encoding.Encoding.TheVariants.{Compact, Explicit};
+ghost use Rattle.trove_parts.specs.cny-stream.declared.encoding.Encoding.{Encoding};
+ghost use Rattle.trove_parts.specs.cny-stream.declared.encoding.Encoding.TheVariants.{Compact, Explicit};
 ghost use Rattle.trove_parts.specs.Files.{HasOtherOwner};
+ghost use Rattle.trove_stream.specs.Leads.{Leads};
 ghost use Rattle.trove_stream.specs.declared.parts.TroveParts.{TroveParts};
+ghost use Rattle.trove_stream.specs.declared.rel.RelParts.{RelParts};
 ghost use Rattle.trove_stream.specs.Stream.{stream_bytes};
 ghost use Rattle.trove_stream.specs.Trove.{IsTrove};
 
@@ -19,3 +21,8 @@ pub fn distinct_troves()
     distinct_ids();
     distinct_lists();
 }
+
+/// A relative trove leads from a trove to one other at most.
+pub fn one_result()
+    ensures { (rel : RelParts) (old a b : TroveParts) → Leads rel old a → Leads rel old b → a ≡ b }
+{}

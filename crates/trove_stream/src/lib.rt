@@ -22,7 +22,7 @@ mod writing;
 
 pub use forbidden::check;
 pub use installed::{Installed, Troves};
-pub use laws::distinct_troves;
+pub use laws::{distinct_troves, one_result};
 pub use parts::TroveParts;
 pub use reading::{decode, decode_full};
 pub use rel::{RelParts, RelTrove};
@@ -33,7 +33,7 @@ pub use rules::is_component_of;
 pub use trove::Trove;
 pub use trove_parts;
 pub use trove_parts::{
-    Deps, FileAt, Files, IdAt, Refs, TroveId, cny_base, file_stream, id_text, next_id, put_id,
+    Deps, FileAt, Files, IdAt, Refs, TroveId, cny_base, cny_stream, id_text, next_id, put_id,
     read_id,
 };
 pub use writing::{encode, encode_full};

@@ -10,7 +10,7 @@ use crate::trove::Trove;
 use crate::writing::{FILE, PROVIDE, REF, REQUIRE};
 use std::alloc::Global;
 use trove_parts::cny_base::{DEPS_LIMIT, FILES_LIMIT, REFS_LIMIT, TextFault};
-use trove_parts::file_stream::Encoding;
+use trove_parts::cny_stream::Encoding;
 use trove_parts::{take_deps, take_files, take_refs};
 
 // The parts that the bytes spell, all of them. Of no list more elements are read than a trove has at most, so that bytes that

@@ -1,7 +1,7 @@
 //! Bytes are the stream of one relative trove at most, and a relative trove has one stream in both encodings or two.
 ghost use Rattle.std.specs.Prelude.{◌≡◌, ◌↔◌, List, ℕ, All};
-ghost use Rattle.trove_parts.specs.file-stream.declared.encoding.Encoding.{Encoding};
-ghost use Rattle.trove_parts.specs.file-stream.declared.encoding.Encoding.TheVariants.{Compact, Explicit};
+ghost use Rattle.trove_parts.specs.cny-stream.declared.encoding.Encoding.{Encoding};
+ghost use Rattle.trove_parts.specs.cny-stream.declared.encoding.Encoding.TheVariants.{Compact, Explicit};
 ghost use Rattle.trove_parts.specs.Files.{HasOtherOwner};
 ghost use Rattle.trove_stream.specs.declared.rel.RelParts.{RelParts};
 ghost use Rattle.trove_stream.specs.RelBytes.{IsStreamOf, rel_stream_bytes};

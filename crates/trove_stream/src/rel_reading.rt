@@ -18,7 +18,7 @@ use crate::rel_writing::{
 };
 use std::alloc::Global;
 use trove_parts::cny_base::{Paths, TextFault};
-use trove_parts::file_stream::Encoding;
+use trove_parts::cny_stream::Encoding;
 use trove_parts::{
     Deps, Files, Refs, TroveId, take_deps, take_files, take_id_item, take_paths, take_refs,
 };

@@ -11,7 +11,7 @@ ghost use Rattle.trove_stream.specs.RelBytes.{rel_stream_bytes, rel_bytes, full_
 use crate::rel::{RelParts, RelTrove};
 use std::alloc::Global;
 use trove_parts::cny_base::{Bytes, OutOfMemory};
-use trove_parts::file_stream::Encoding;
+use trove_parts::cny_stream::Encoding;
 use trove_parts::{put_deps, put_files, put_id_item, put_paths, put_refs};
 
 /// The tags of the items. Each kind of change has two: one for what is gone, and the next.

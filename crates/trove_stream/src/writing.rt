@@ -7,7 +7,7 @@ use crate::trove::Trove;
 use cny_stream::put_item;
 use std::alloc::Global;
 use trove_parts::cny_base::{Bytes, OutOfMemory};
-use trove_parts::file_stream::Encoding;
+use trove_parts::cny_stream::Encoding;
 use trove_parts::{TroveId, put_deps, put_files, put_refs, short_ids};
 
 /// The tags of a trove's items.

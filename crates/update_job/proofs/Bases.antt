@@ -7,7 +7,7 @@ use Rattle.std.proofs.lemmas.Cmp.{tied_itself}
 use Rattle.change_set.specs.trove-stream.declared.rel.RelParts.{RelParts}
 use Rattle.change_set.specs.trove-parts.declared.id.TroveId.{TroveId}
 use Rattle.change_set.specs.trove-stream.declared.parts.TroveParts.{TroveParts}
-use Rattle.change_rel.specs.Leads.{Leads}
+use Rattle.change_rel.specs.trove-stream.Leads.{Leads}
 use Rattle.change_set.specs.trove-stream.Installed.{by_name, IsRising, trove_of}
 use Rattle.update_job.specs.Made.{IsLedTo}
 use Rattle.change_rel.proofs.trove-stream.Names.{contained as found}

@@ -5,7 +5,7 @@ use Rattle.change_set.specs.cny-base.declared.refusal.Refusal.TheVariants.{Missi
 use Rattle.change_set.specs.trove-parts.Id.{id_text_of}
 use Rattle.change_set.specs.trove-stream.declared.rel.RelParts.{RelParts}
 use Rattle.change_set.specs.trove-stream.declared.parts.TroveParts.{TroveParts}
-use Rattle.change_rel.specs.Leads.{Leads}
+use Rattle.change_rel.specs.trove-stream.Leads.{Leads}
 use Rattle.change_set.specs.declared.change.Part.{Part}
 use Rattle.change_set.specs.declared.change.Part.TheVariants.{Whole, Relative}
 use Rattle.change_set.specs.trove-stream.Installed.{trove_of}

@@ -3,13 +3,13 @@ ghost use Rattle.std.specs.Prelude.{◌≡◌, Contains, List};
 ghost use Rattle.change_set.specs.cny-base.declared.refusal.Refusal.{Refusal};
 ghost use Rattle.change_set.specs.trove-stream.declared.parts.TroveParts.{TroveParts};
 ghost use Rattle.change_set.specs.trove-stream.declared.rel.RelParts.{RelParts};
-ghost use Rattle.change_rel.specs.Leads.{Leads};
+ghost use Rattle.change_rel.specs.trove-stream.Leads.{Leads};
 ghost use Rattle.change_set.specs.declared.change.Part.{Part};
 ghost use Rattle.change_set.specs.trove-stream.Installed.{IsRising};
 ghost use Rattle.update_job.specs.Allowed.{AreAllowed, IsFirstReserved};
 ghost use Rattle.update_job.specs.Made.{AreMade, IsFirstRefused, IsLedTo};
 
-use change_rel::one_result;
+use change_rel::trove_stream::one_result;
 
 /// Troves are refused for one path, and not where none of them records a forbidden one.
 pub fn one_reserved()

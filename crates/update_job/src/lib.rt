@@ -17,7 +17,7 @@ mod reaching;
 pub use allowed::check_allowed;
 pub use applying::applied;
 pub use change_set;
-pub use change_set::{cny_base, file_stream, trove_parts, trove_stream};
+pub use change_set::{cny_base, cny_stream, trove_parts, trove_stream};
 pub use changing::{erased, updated};
 pub use comparing::{Change, Changes, changed};
 pub use laws::{led_from_installed, one_made, one_reserved};

@@ -1,6 +1,6 @@
 use Rattle.std.proofs.Common.{◌++◌, List, ap, ◌∙◌, arith}
 use Rattle.std.proofs.lemmas.List.{take_rest}
-use Rattle.change_rel.proofs.Members.{within_front}
+use Rattle.trove_stream.proofs.Members.{within_front}
 use Rattle.change_rel.proofs.Passes.{amend_kept, amend_gone, amend_behind, amend_replaced, amend_unfit, amend_left, amend_rest}
 use Rattle.change_rel.proofs.amending.amended.Goals as goal
 

@@ -1,5 +1,5 @@
 use Rattle.std.proofs.Common.{◌+◌, ◌∷◌, List, drop, sym, subst}
-use Rattle.change_rel.specs.Amends.{Fits}
+use Rattle.trove_stream.specs.Amends.{Fits}
 use Rattle.change_rel.proofs.Passes.{keys_below_from, unfit_key}
 use Rattle.trove_stream.proofs.Merging.{front_at}
 use Rattle.change_rel.proofs.amending.fate_by_keys.Goals as goal

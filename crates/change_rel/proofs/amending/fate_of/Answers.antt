@@ -1,8 +1,8 @@
 use Rattle.std.proofs.Common.{◌≡◌, ◌+◌, ◌∷◌, List, drop, sym, subst}
 use Rattle.std.proofs.lemmas.List.Elements.{All-nil}
 use Rattle.std.specs.declared.cmp.Ordering.TheVariants.{Less}
-use Rattle.change_rel.specs.Amends.{Fits, IsBelow}
-use Rattle.change_rel.proofs.Members.{drop_all}
+use Rattle.trove_stream.specs.Amends.{Fits, IsBelow}
+use Rattle.trove_stream.proofs.Members.{drop_all}
 use Rattle.change_rel.proofs.Passes.{below_from, fate_from, unfit_set}
 use Rattle.trove_stream.proofs.Merging.{front_at}
 use Rattle.change_rel.proofs.amending.fate_of.Goals as goal

@@ -1,7 +1,7 @@
 use Rattle.std.proofs.Common.{Option, MatchOption, subst}
 use Rattle.trove_stream.specs.declared.parts.TroveParts.{TroveParts}
 use Rattle.trove_stream.specs.declared.rel.RelParts.{RelParts}
-use Rattle.change_rel.specs.Leads.{Leads, LeadsNowhere}
+use Rattle.trove_stream.specs.Leads.{Leads, LeadsNowhere}
 use Rattle.change_rel.proofs.applying.apply.Goals as goal
 
 pub returns-in-Some-clause-only : goal.returns-in-Some-clause-only

@@ -1,6 +1,6 @@
 use Rattle.std.proofs.Common.{Option, MatchOption, refl, sym, subst, ◌∙◌}
 use Rattle.trove_stream.specs.declared.parts.TroveParts.{TroveParts}
-use Rattle.change_rel.specs.Leads.{LeadsNowhere}
+use Rattle.trove_stream.specs.Leads.{LeadsNowhere}
 use Rattle.change_rel.specs.Lists.{AreAmended}
 use Rattle.change_rel.proofs.Leading.{led}
 use Rattle.change_rel.proofs.applying.led_to.Goals as goal

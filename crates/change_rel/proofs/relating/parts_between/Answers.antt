@@ -4,7 +4,7 @@ use Rattle.cny_dep.specs.Order.{dep_cmp}
 use Rattle.trove_stream.specs.trove-parts.Order.{id_cmp}
 use Rattle.trove_stream.specs.trove-parts.Files.{path_of, file_cmp}
 use Rattle.trove_stream.specs.trove-parts.Paths.{path_cmp}
-use Rattle.change_rel.specs.Leads.{id_key, dep_key}
+use Rattle.trove_stream.specs.Leads.{id_key, dep_key}
 use Rattle.change_rel.proofs.Leading.{moved, leads_of}
 use Rattle.change_rel.proofs.relating.parts_between.Goals as goal
 

@@ -1,6 +1,6 @@
 use Rattle.std.proofs.Common.{sym, subst}
 use Rattle.trove_stream.specs.declared.rel.RelParts.{RelParts}
-use Rattle.change_rel.specs.Leads.{Leads}
+use Rattle.trove_stream.specs.Leads.{Leads}
 use Rattle.change_rel.proofs.relating.relative.Goals as goal
 
 pub returns-clause-only : goal.returns-clause-only

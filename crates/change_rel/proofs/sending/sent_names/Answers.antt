@@ -2,7 +2,7 @@ use Rattle.std.proofs.Common.{List, Contains, arith, subst}
 use Rattle.std.specs.Prelude.{◌↔◌}
 use Rattle.trove_stream.specs.trove-parts.declared.files.FileAt.{FileAt}
 use Rattle.change_rel.specs.Sending.{SendsName}
-use Rattle.change_rel.proofs.Members.{take_all}
+use Rattle.trove_stream.proofs.Members.{take_all}
 use Rattle.change_rel.proofs.Sent.{turn}
 use Rattle.change_rel.proofs.sending.sent_names.Goals as goal
 

@@ -1,5 +1,5 @@
 use Rattle.std.proofs.Common.{Bool, ◌||◌, sym, ap, ◌∙◌}
-use Rattle.trove_stream.specs.file-stream.Record.{has_name_and_size}
+use Rattle.trove_stream.specs.cny-stream.Record.{has_name_and_size}
 use Rattle.change_set.specs.Index.{has_key}
 use Rattle.change_set.proofs.Indexing.{one_more}
 use Rattle.change_set.proofs.recorded.add_file.Goals as goal

@@ -1,5 +1,5 @@
 use Rattle.std.proofs.Common.{ℕ, ◌==◌, List, length, ap, sym, ◌∙◌}
-use Rattle.cny_flavor.specs.Canonical.{flavor_text}
+use Rattle.cny_dep.specs.Canonical.{flavor_text}
 use Rattle.std.proofs.lemmas.Result.{err_from_is_err_and}
 use Rattle.cny_manifest.proofs.Values.{flavor_not_read, flavor_empty, flavor_read, empty_none, empty_some}
 use Rattle.cny_manifest.proofs.head.flavor_field.Goals as goal

@@ -2,8 +2,8 @@ use Rattle.std.proofs.Common.{Err, sym, ap, subst}
 use Rattle.cny_pack.specs.Halts.{IsUnread}
 use Rattle.cny_pack.specs.declared.stop.BadWord.TheVariants as bad
 use Rattle.cny_pack.proofs.Stopping.{unread_is}
-use Rattle.cny_flavor.specs.declared.parts.Parts.{Parts}
-use Rattle.cny_flavor.specs.Spelling.{IsRelaxedText, IsReadAs}
+use Rattle.cny_dep.specs.declared.parts.Parts.{Parts}
+use Rattle.cny_dep.specs.Spelling.{IsRelaxedText, IsReadAs}
 use Rattle.tree_disk.specs.cny-base.declared.text.TextFault.{TextFault}
 use Rattle.cny_pack.proofs.head.flavor_of.Goals as goal
 

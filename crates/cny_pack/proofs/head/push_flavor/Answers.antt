@@ -1,6 +1,6 @@
 use Rattle.std.proofs.Common.{◌≡◌, ◌==◌, ℕ, List, ◌++◌, length, ap, sym, ◌∙◌, subst, codes}
 use Rattle.std.proofs.lemmas.Str.{is_utf8-from_IsUtf8}
-use Rattle.cny_flavor.specs.Canonical.{flavor_text}
+use Rattle.cny_dep.specs.Canonical.{flavor_text}
 use Rattle.cny_manifest.proofs.Values.{empty_some}
 use Rattle.cny_pack.specs.Head.{AddsLine}
 use Rattle.std.proofs.Common.{true, false, refl, [], ◌∷◌, arith}
@@ -8,7 +8,7 @@ use Rattle.std.proofs.lemmas.Bool.{eqb-true}
 use Rattle.cny_pack.proofs.Stopping.{handed, unread_more}
 use Rattle.cny_manifest.specs.Body.{is_empty}
 use Rattle.cny_manifest.specs.Grammar.{IsLine}
-use Rattle.cny_flavor.specs.declared.parts.Parts.{Parts}
+use Rattle.cny_dep.specs.declared.parts.Parts.{Parts}
 use Rattle.cny_pack.specs.declared.stop.BadWord.TheVariants as bad
 use Rattle.cny_pack.proofs.head.push_flavor.Goals as goal
 

@@ -1,6 +1,6 @@
 use Rattle.std.proofs.Common.{map}
 use Rattle.std.specs.Prelude.{string_bytes}
-use Rattle.cny_flow.specs.Flow.{sink_state}
+use Rattle.cny_version.specs.cny-base.Flow.{sink_state}
 use Rattle.cny_version.proofs.cny-base.Passing.{err_is}
 use Rattle.conary_cli.specs.Program.{RunsAlone, line_state, told_source}
 use Rattle.conary_cli.proofs.LineCalls.{begun_alone, unread_alone}

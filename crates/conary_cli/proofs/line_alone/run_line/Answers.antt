@@ -1,4 +1,4 @@
-use Rattle.cny_flow.specs.Flow.{sink_state}
+use Rattle.cny_version.specs.cny-base.Flow.{sink_state}
 use Rattle.conary_cli.specs.Program.{line_state, told_source}
 use Rattle.conary_cli.proofs.Calls.{some_words, whole_words}
 use Rattle.conary_cli.proofs.line_alone.run_line.Goals as goal

@@ -1,5 +1,5 @@
 use Rattle.std.proofs.Common.{Ok, refl, inl, inr}
-use Rattle.cny_flow.specs.Flow.{sink_state}
+use Rattle.cny_version.specs.cny-base.Flow.{sink_state}
 use Rattle.root_commands.specs.cli-call.Line.{moment}
 use Rattle.root_commands.specs.cli-call.cny-laws.Reading.{left_by}
 use Rattle.root_commands.proofs.cli-call.CallLaws.{opened_ready}

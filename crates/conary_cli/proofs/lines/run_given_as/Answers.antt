@@ -1,5 +1,5 @@
 use Rattle.std.proofs.Common.{Bool, Ok, sym, subst}
-use Rattle.cny_flow.specs.Flow.{sink_state}
+use Rattle.cny_version.specs.cny-base.Flow.{sink_state}
 use Rattle.root_commands.specs.cli-call.Line.{moment}
 use Rattle.conary_cli.specs.Lines.{RunsOf}
 use Rattle.conary_cli.proofs.lines.run_given_as.Goals as goal

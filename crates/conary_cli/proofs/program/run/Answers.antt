@@ -1,6 +1,6 @@
 use Rattle.std.proofs.Common.{map}
 use Rattle.std.specs.Prelude.{string_bytes}
-use Rattle.cny_flow.specs.Flow.{sink_state}
+use Rattle.cny_version.specs.cny-base.Flow.{sink_state}
 use Rattle.root_commands.specs.cli-call.cny-laws.Call.{call_state}
 use Rattle.conary_cli.proofs.ProgramEnds.{some_program, whole_program}
 use Rattle.conary_cli.proofs.program.run.Goals as goal

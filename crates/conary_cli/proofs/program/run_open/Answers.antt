@@ -1,4 +1,4 @@
-use Rattle.cny_flow.specs.Flow.{source_state}
+use Rattle.cny_version.specs.cny-base.Flow.{source_state}
 use Rattle.root_commands.specs.cli-call.Runs.{RunsOpen}
 use Rattle.root_commands.specs.cli-call.Line.{moment}
 use Rattle.conary_cli.specs.Commands.{meaning, scope_of}

@@ -1,6 +1,6 @@
 use Rattle.std.proofs.Common.{Ok, map, inl, sym, subst}
 use Rattle.std.specs.Prelude.{string_bytes}
-use Rattle.cny_flow.specs.Flow.{sink_state, source_state}
+use Rattle.cny_version.specs.cny-base.Flow.{sink_state, source_state}
 use Rattle.root_commands.specs.cli-call.cny-laws.Call.{call_state}
 use Rattle.conary_cli.specs.Program.{RunsProgram, RunsSomething}
 use Rattle.cli_words.specs.Calls.{AreCall}

@@ -1,5 +1,5 @@
 use Rattle.std.proofs.Common.{inl, inr, refl}
-use Rattle.cny_flow.specs.Flow.{source_state}
+use Rattle.cny_version.specs.cny-base.Flow.{source_state}
 use Rattle.cny_version.proofs.cny-base.Passing.{err_is}
 use Rattle.root_commands.specs.cli-call.cny-laws.Failures.{failure_of_fault}
 use Rattle.conary_cli.specs.RunsSeveral.{ReadsBatch}

@@ -1,5 +1,5 @@
 use Rattle.std.proofs.Common.{false, refl, inl, inr, []}
-use Rattle.cny_flow.specs.Flow.{sink_state}
+use Rattle.cny_version.specs.cny-base.Flow.{sink_state}
 use Rattle.root_commands.proofs.cli-call.CallLaws.{opened_ready}
 use Rattle.cny_version.proofs.cny-base.Passing.{err_is}
 use Rattle.conary_cli.specs.RunsSeveral.{RunsSeveral}

@@ -1,7 +1,7 @@
 use Rattle.std.proofs.Common.{◌≡◌, ◌∙◌, ap, subst, sym}
 use Rattle.std.specs.FinMap.{get}
 use Rattle.tree_journal.proofs.tree-disk.StepLaws.{tests_value}
-use Rattle.change_rel.specs.cny-base.Count.{Rose}
+use Rattle.trove_stream.specs.cny-base.Count.{Rose}
 use Rattle.tree_journal.specs.tree-disk.Tree.{Name}
 use Rattle.local_db.specs.Names.{database}
 use Rattle.local_db.specs.Stores.{HoldsFile}

@@ -1,6 +1,6 @@
 use Rattle.std.proofs.Common.{subst, sym}
-use Rattle.change_rel.specs.trove-stream.Installed.{IsRising}
-use Rattle.change_rel.proofs.trove-stream.Lists.{none_rise}
+use Rattle.trove_stream.specs.Installed.{IsRising}
+use Rattle.trove_stream.proofs.Lists.{none_rise}
 use Rattle.local_db.proofs.loading.no_database.Goals as goal
 
 pub of_rising-requires : goal.of_rising-requires

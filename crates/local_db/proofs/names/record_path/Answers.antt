@@ -1,5 +1,5 @@
 use Rattle.std.proofs.Common.{ap, ◌∙◌}
-use Rattle.change_rel.specs.cny-base.Path.{is_path}
+use Rattle.trove_stream.specs.cny-base.Path.{is_path}
 use Rattle.local_db.proofs.FileNames.{record_is_path}
 use Rattle.local_db.proofs.names.record_path.Goals as goal
 

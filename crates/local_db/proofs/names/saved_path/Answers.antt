@@ -1,5 +1,5 @@
 use Rattle.std.proofs.Common.{ap, ◌∙◌}
-use Rattle.change_rel.specs.cny-base.Path.{is_path}
+use Rattle.trove_stream.specs.cny-base.Path.{is_path}
 use Rattle.local_db.proofs.FileNames.{saved_is_path}
 use Rattle.local_db.proofs.names.saved_path.Goals as goal
 

@@ -1,10 +1,10 @@
 use Rattle.std.proofs.Common.{◌≡◌, ◌∙◌, Err, ap}
 use Rattle.std.proofs.lemmas.Result.{err_from_is_err_and}
-use Rattle.change_rel.specs.cny-base.declared.text.TextFault.TheVariants.{Bad}
+use Rattle.trove_stream.specs.cny-base.declared.text.TextFault.TheVariants.{Bad}
 use Rattle.local_db.specs.declared.db.Db.{Db}
 use Rattle.local_db.specs.Database.{IsDatabaseFile}
 use Rattle.local_db.proofs.Holding.{if_ok_map, passes_checks, read_is, text_in}
-use Rattle.change_rel.proofs.cny-dep.Faults.{handed_on}
+use Rattle.trove_stream.proofs.cny-dep.Faults.{handed_on}
 use Rattle.local_db.proofs.reading.decode.Goals as goal
 
 pub returns-in_err-parts-clause-bad : goal.returns-in_err-parts-clause-bad

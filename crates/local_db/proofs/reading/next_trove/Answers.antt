@@ -1,11 +1,11 @@
 use Rattle.std.proofs.Common.{[], Err, ap, refl, arith, ◌++◌}
 use Rattle.std.specs.Int.{w32, to_be_bytes}
 use Rattle.std.proofs.lemmas.Result.{err_from_is_err_and}
-use Rattle.change_rel.specs.cny-base.declared.text.TextFault.TheVariants.{Bad}
+use Rattle.trove_stream.specs.cny-base.declared.text.TextFault.TheVariants.{Bad}
 use Rattle.cny_stream.specs.Item.{item_bytes}
 use Rattle.local_db.specs.Formats.{trove_text}
 use Rattle.local_db.proofs.Found.{no_trove_here}
-use Rattle.change_rel.proofs.cny-dep.Faults.{handed_on}
+use Rattle.trove_stream.proofs.cny-dep.Faults.{handed_on}
 use Rattle.local_db.proofs.reading.next_trove.Goals as goal
 
 pub returns-in_default-clause-no_trove : goal.returns-in_default-clause-no_trove

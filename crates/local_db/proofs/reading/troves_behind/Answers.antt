@@ -1,10 +1,10 @@
 use Rattle.std.proofs.Common.{Err, List, ap, subst, sym}
 use Rattle.std.proofs.lemmas.Result.{err_from_is_err_and}
-use Rattle.change_rel.specs.cny-base.declared.text.TextFault.TheVariants.{Bad}
-use Rattle.change_rel.specs.trove-stream.declared.parts.TroveParts.{TroveParts}
+use Rattle.trove_stream.specs.cny-base.declared.text.TextFault.TheVariants.{Bad}
+use Rattle.trove_stream.specs.declared.parts.TroveParts.{TroveParts}
 use Rattle.local_db.specs.Reading.{AreTrovesTo}
 use Rattle.local_db.proofs.Texts.{last_of, no_troves, one_more}
-use Rattle.change_rel.proofs.cny-dep.Faults.{handed_on}
+use Rattle.trove_stream.proofs.cny-dep.Faults.{handed_on}
 use Rattle.local_db.proofs.reading.troves_behind.Goals as goal
 
 pub items-init : goal.items-init

@@ -1,9 +1,9 @@
 use Rattle.std.proofs.Common.{List, take, sym, subst, ◌++◌, ◌∙◌}
 use Rattle.std.proofs.lemmas.Bool.{false≢true}
-use Rattle.change_rel.specs.trove-parts.declared.files.FileAt.{FileAt}
+use Rattle.trove_stream.specs.trove-parts.declared.files.FileAt.{FileAt}
 use Rattle.local_db.specs.Sharing.{AreApart, AreNoted}
 use Rattle.local_db.proofs.Apart.{apart_all, next_trove}
-use Rattle.change_rel.specs.trove-stream.FilesOf.{files_of}
+use Rattle.trove_stream.specs.FilesOf.{files_of}
 use Rattle.local_db.proofs.sharing.share_dirs_alone.Goals as goal
 
 pub returns-then-not-branch : goal.returns-then-not-branch

@@ -2,7 +2,7 @@ use Rattle.std.proofs.Common.{subst, arith}
 use Rattle.tree_journal.specs.tree-disk.Confined.{Among, Confined, LeavesOnly}
 use Rattle.tree_journal.specs.tree-disk.Tree.{Name}
 use Rattle.tree_journal.proofs.tree-disk.ConfinedLaws.{confined_start}
-use Rattle.change_rel.specs.cny-base.Reserved.{private_directory}
+use Rattle.trove_stream.specs.cny-base.Reserved.{private_directory}
 use Rattle.tree_journal.specs.Apply.{IsAsBefore}
 use Rattle.tree_journal.specs.EmptyStage.{is_stage_name}
 use Rattle.local_db.proofs.StagedContents.{nothing_staged, stage_keeps}

@@ -1,4 +1,4 @@
-use Rattle.change_rel.specs.trove-stream.Trove.{IsTrove}
+use Rattle.trove_stream.specs.Trove.{IsTrove}
 use Rattle.local_db.proofs.Written.{all_written, one_written}
 use Rattle.local_db.proofs.writing.put_troves.Goals as goal
 

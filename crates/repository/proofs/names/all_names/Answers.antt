@@ -3,7 +3,7 @@ use Rattle.std.specs.Prelude.{◌↔◌}
 use Rattle.repo_load.specs.trove-stream.declared.parts.TroveParts.{TroveParts}
 use Rattle.repository.specs.Between.{SendsContent}
 use Rattle.repository.proofs.Gathered.{gathered_more, none_sent}
-use Rattle.change_rel.proofs.Members.{take_all}
+use Rattle.change_rel.proofs.trove-stream.Members.{take_all}
 use Rattle.repository.proofs.names.all_names.Goals as goal
 
 pub loop-trove-init : goal.loop-trove-init

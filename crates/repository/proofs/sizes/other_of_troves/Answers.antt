@@ -3,7 +3,7 @@ use Rattle.repo_load.specs.trove-parts.declared.files.FileAt.{FileAt}
 use Rattle.repo_load.specs.trove-stream.declared.parts.TroveParts.{TroveParts}
 use Rattle.repository.specs.BetweenSteps.{AllFit, FilesFit}
 use Rattle.repository.proofs.Fitting.{each_more}
-use Rattle.change_rel.proofs.Members.{take_all}
+use Rattle.change_rel.proofs.trove-stream.Members.{take_all}
 use Rattle.repository.proofs.sizes.other_of_troves.Goals as goal
 
 pub loop-trove-preserved : goal.loop-trove-preserved

@@ -1,5 +1,5 @@
 use Rattle.trove_spec.specs.AndThen.{EndsAs}
-use Rattle.dep_resolve.specs.Rounds.{Completes}
+use Rattle.sys_model.specs.Rounds.{Completes}
 use Rattle.root_commands.proofs.SpecEnds.{all_allowed}
 use Rattle.local_db.proofs.cny-base.Passing.{err_is}
 use Rattle.root_commands.proofs.specified.all_completed.Goals as goal

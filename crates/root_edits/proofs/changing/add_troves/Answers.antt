@@ -8,7 +8,7 @@ use Rattle.root_edits.specs.Steps.{HaveAddedParts}
 use Rattle.tree_scan.proofs.ReadingLaws.{reads_answer, reads_start, reads_stop, reads_then, reads_same}
 use Rattle.root_edits.proofs.Members.{next_one}
 use Rattle.root_edits.proofs.Setting.{added_on, added_small, no_parts_added, one_part_added, trove_refused, trove_rest}
-use Rattle.change_rel.proofs.Members.{take_all as take_whole}
+use Rattle.change_rel.proofs.trove-stream.Members.{take_all as take_whole}
 use Rattle.root_edits.proofs.changing.add_troves.Goals as goal
 
 pub loop-place-init : goal.loop-place-init

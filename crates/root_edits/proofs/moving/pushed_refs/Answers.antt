@@ -4,7 +4,7 @@ use Rattle.update_job.specs.cny-base.Name.{kind_of_name}
 use Rattle.update_job.specs.trove-parts.declared.id.TroveId.{TroveId}
 use Rattle.root_edits.specs.Moved.{keeps_others, local_ref}
 use Rattle.root_edits.proofs.Members.{filter_map_push, next_one}
-use Rattle.change_rel.proofs.Members.{take_all as take_whole}
+use Rattle.change_rel.proofs.trove-stream.Members.{take_all as take_whole}
 use Rattle.root_edits.proofs.moving.pushed_refs.Goals as goal
 
 pub loop-id-preserved : goal.loop-id-preserved

@@ -4,7 +4,7 @@ use Rattle.update_job.specs.trove-stream.declared.parts.TroveParts.{TroveParts}
 use Rattle.root_edits.specs.Steps.{chosen}
 use Rattle.root_edits.proofs.Choosing.{chosen_next, chosen_rises}
 use Rattle.root_edits.proofs.reaching.chosen.Goals.{then-contains+in_ok-copy+in_ok-push, else-contains}
-use Rattle.change_rel.proofs.Members.{take_all as take_whole}
+use Rattle.change_rel.proofs.trove-stream.Members.{take_all as take_whole}
 use Rattle.root_edits.proofs.reaching.chosen.Goals as goal
 
 pub of_rising-requires : goal.of_rising-requires

@@ -7,7 +7,7 @@ use Rattle.root_edits.specs.Steps.{within_limit, HaveSeen}
 use Rattle.tree_scan.proofs.ReadingLaws.{reads_answer, reads_memory, reads_start, reads_then, reads_same, tested_answer, tested_stop}
 use Rattle.root_edits.proofs.Members.{next_one}
 use Rattle.root_edits.proofs.Seeing.{nothing_seen, one_seen, refused_at, rest_at, within_ok}
-use Rattle.change_rel.proofs.Members.{take_all as take_whole}
+use Rattle.change_rel.proofs.trove-stream.Members.{take_all as take_whole}
 use Rattle.root_edits.proofs.standing.standing_files.Goals as goal
 
 pub loop-file-init : goal.loop-file-init

@@ -1,6 +1,6 @@
 use Rattle.std.proofs.Common.{◌≡◌, ℕ, ◌-◌, min, length, drop, take, Ok, sym, ap, ◌∙◌, arith}
 use Rattle.std.proofs.lemmas.List.{length-take, length-drop}
-use Rattle.cny_lanes.specs.Compare.{count_of_differing}
+use Rattle.tree_disk.specs.cny-base.Compare.{count_of_differing}
 use Rattle.tree_disk.specs.Rows.{bytes_at}
 use Rattle.tree_disk.proofs.StepLaws.{tests_answer}
 use Rattle.tree_scan.proofs.Buffers.{read_count}

@@ -1,6 +1,6 @@
 use Rattle.std.proofs.Common.{◌≡◌, ◌+◌, ◌-◌, ℕ, min, length, Ok, ap, ◌∙◌, arith}
 use Rattle.std.specs.Prelude.{unwrap_or}
-use Rattle.cny_lanes.specs.Compare.{count_of_differing}
+use Rattle.tree_disk.specs.cny-base.Compare.{count_of_differing}
 use Rattle.tree_disk.specs.Looks.{size_seen}
 use Rattle.tree_disk.specs.Rows.{bytes_at}
 use Rattle.tree_disk.proofs.StepLaws.{tests_answer, tests_value}

@@ -1,6 +1,6 @@
 use Rattle.std.proofs.Common.{◌≡◌, ◌-◌, ◌≤◌, length, drop, take, Ok, refl, sym, ap, ◌∙◌, arith}
 use Rattle.std.proofs.lemmas.List.{length-take, length-drop, take_all}
-use Rattle.cny_lanes.specs.Compare.{count_of_differing}
+use Rattle.tree_disk.specs.cny-base.Compare.{count_of_differing}
 use Rattle.tree_disk.specs.Rows.{bytes_at}
 use Rattle.tree_disk.specs.Tree.{Tree}
 use Rattle.tree_disk.proofs.StepLaws.{tests_answer, tests_start, tests_value}

@@ -1,5 +1,5 @@
 use Rattle.std.proofs.Common.{◌≡◌, ◌-◌, ◌≤◌, ◌<◌, IsTrue, Ok, take, length}
-use Rattle.cny_lanes.specs.Compare.{count_of_differing}
+use Rattle.tree_disk.specs.cny-base.Compare.{count_of_differing}
 use Rattle.tree_disk.specs.Rows.{bytes_at}
 use Rattle.tree_disk.specs.Steps.{Tests}
 use Rattle.tree_scan.proofs.counting.pieces_differing.Given as goal

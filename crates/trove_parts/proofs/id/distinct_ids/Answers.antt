@@ -1,7 +1,7 @@
 use Rattle.std.proofs.Common.{◌&&◌, ◌++◌}
 use Rattle.std.specs.Cmp.{first_so, second_so}
 use Rattle.std.specs.Str.{bytes_eq}
-use Rattle.cny_flavor.specs.Canonical.{flavor_text}
+use Rattle.cny_dep.specs.Canonical.{flavor_text}
 use Rattle.cny_version.specs.Version.{version_text}
 use Rattle.trove_parts.specs.Id.{in_brackets}
 use Rattle.cny_dep.proofs.Cuts.{same_cut}

@@ -1,4 +1,4 @@
-use Rattle.file_stream.specs.declared.encoding.Encoding.TheVariants.{Compact}
+use Rattle.cny_stream.specs.declared.encoding.Encoding.TheVariants.{Compact}
 use Rattle.trove_parts.proofs.Encodings.{encodings_equal}
 use Rattle.trove_parts.proofs.laws.distinct_lists.Goals as goal
 

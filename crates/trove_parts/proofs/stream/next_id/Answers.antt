@@ -1,7 +1,7 @@
 use Rattle.std.proofs.Common.{◌≡◌, Err, ap, ◌∙◌}
 use Rattle.std.proofs.lemmas.Result.{err_from_is_err_and}
 use Rattle.cny_version.specs.cny-base.declared.text.TextFault.TheVariants.{Bad}
-use Rattle.cny_flavor.specs.Canonical.{flavor_text}
+use Rattle.cny_dep.specs.Canonical.{flavor_text}
 use Rattle.cny_version.specs.Version.{version_text}
 use Rattle.trove_parts.proofs.IdFields.{fields_fit, texts_there, rest_there, id_there}
 use Rattle.cny_dep.proofs.Faults.{handed_on}

@@ -1,6 +1,6 @@
 use Rattle.std.proofs.Common.{◌≡◌, ℕ, List, ◌++◌, sym, ap, ◌∙◌}
 use Rattle.std.specs.Cmp.Lexicographic.{bytes_decides}
-use Rattle.change_set.specs.file-stream.declared.encoding.Encoding.TheVariants.{Compact}
+use Rattle.change_set.specs.cny-stream.declared.encoding.Encoding.TheVariants.{Compact}
 use Rattle.change_set.specs.trove-stream.Stream.{trove_bytes}
 use Rattle.update_job.proofs.by_name.are_equal.Goals as goal
 

@@ -1,6 +1,6 @@
 use Rattle.std.proofs.Common.{None}
 use Rattle.cny_dep.specs.declared.class.Class.TheVariants.{Trove}
-use Rattle.cny_dep.proofs.Parts.{dependency_by}
+use Rattle.cny_dep.proofs.DepParts.{dependency_by}
 use Rattle.cny_dep.proofs.PartBytes.{name_is_dep_name}
 use Rattle.cny_dep.proofs.dep.Dep.of_trove.Goals as goal
 

@@ -8,7 +8,7 @@ use Rattle.cny_dep.specs.Listing.{group_text, Lists}
 use Rattle.cny_dep.specs.Part.{is_dep_name}
 use Rattle.cny_dep.specs.Relaxed.{IsRelaxedText}
 use Rattle.cny_dep.proofs.Faults.{handed_on}
-use Rattle.cny_dep.proofs.Parts.{relaxed_parts, relaxed_by, dependency_by, same_dep, one_list}
+use Rattle.cny_dep.proofs.DepParts.{relaxed_parts, relaxed_by, dependency_by, same_dep, one_list}
 use Rattle.cny_dep.proofs.PartBytes.{name_bytes}
 use Rattle.cny_dep.proofs.dep.Dep.read.Goals as goal
 

@@ -6,7 +6,7 @@ use Rattle.cny_dep.specs.Dep.{dep_text}
 use Rattle.std.proofs.lemmas.Result.{err_from_is_err_and}
 use Rattle.cny_base.specs.declared.text.TextFault.TheVariants.{Bad}
 use Rattle.cny_dep.proofs.Faults.{handed_on}
-use Rattle.cny_dep.proofs.Parts.{canonical_relaxed}
+use Rattle.cny_dep.proofs.DepParts.{canonical_relaxed}
 use Rattle.cny_dep.proofs.dep.Dep.read_whole.Goals as goal
 
 pub returns-in_err-dep-clause-bad : goal.returns-in_err-dep-clause-bad

@@ -1,6 +1,6 @@
 use Rattle.std.proofs.Common.{sym, ◌∙◌}
 use Rattle.cny_dep.specs.Dep.{Dependency}
-use Rattle.cny_dep.proofs.Parts.{one_canonical}
+use Rattle.cny_dep.proofs.DepParts.{one_canonical}
 use Rattle.cny_dep.proofs.dep.Dep.text.Goals as goal
 
 pub returns-clause-only : goal.returns-clause-only

@@ -1,5 +1,5 @@
 use Rattle.std.proofs.Common.{[], append-nil, sym, ◌∙◌}
-use Rattle.file_stream.specs.Record.{record_bytes}
+use Rattle.cny_stream.specs.Record.{record_bytes}
 use Rattle.trove_parts.proofs.ItemFields.{path_fits}
 use Rattle.cny_version.proofs.cny-base.IdFields.{same_str}
 use Rattle.trove_parts.proofs.files.FileAtElement.values_differ.Goals as goal

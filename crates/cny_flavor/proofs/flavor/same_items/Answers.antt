@@ -1,5 +1,0 @@
-use Rattle.cny_flavor.proofs.Putting.{in_order_permutes}
-use Rattle.cny_flavor.proofs.flavor.same_items.Goals as goal
-
-pub returns : goal.returns
-returns c = record { flags = in_order_permutes (λ f. f.word); sets = in_order_permutes (λ s. s.word) }

@@ -1,7 +1,0 @@
-use Rattle.std.proofs.Common.{◌≡◌, ◌+◌, take}
-use Rattle.std.specs.List.{sum_by}
-use Rattle.cny_flavor.specs.Canonical.{set_count}
-use Rattle.cny_flavor.proofs.order.counts_within.Given as goal
-
-abbrev pub invariant-loop-set : goal.invariant-loop-set
-invariant-loop-set l = sum_by set_count (take l.set-index l.sets) + l.left ≡ l.most

@@ -1,9 +1,0 @@
-use Rattle.std.proofs.Common.{◌≡◌, length}
-use Rattle.cny_flavor.specs.Order.{rise}
-use Rattle.cny_flavor.proofs.order.rises.Given as goal
-
-abbrev pub invariant-loop-rest : goal.invariant-loop-rest
-invariant-loop-rest g l = rise g.T.Worded.word_of l.items ≡ rise g.T.Worded.word_of l.rest
-
-abbrev pub decreases-loop-rest : goal.decreases-loop-rest
-decreases-loop-rest g l = length l.rest

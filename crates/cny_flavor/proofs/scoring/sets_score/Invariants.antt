@@ -1,5 +1,0 @@
-use Rattle.cny_flavor.proofs.Totals.{SetsSummed}
-use Rattle.cny_flavor.proofs.scoring.sets_score.Given as goal
-
-abbrev pub invariant-loop-set : goal.invariant-loop-set
-invariant-loop-set l = SetsSummed l.trove l.system l.set-index l.score

@@ -1,5 +1,0 @@
-use Rattle.cny_lanes.specs.Compare.{AreSameBefore}
-use Rattle.cny_lanes.proofs.compare.first_byte_by_byte.Given as goal
-
-abbrev pub invariant-loop-at : goal.invariant-loop-at
-invariant-loop-at l = AreSameBefore l.a l.b l.at

@@ -1,7 +1,0 @@
-use Rattle.std.proofs.Common.{take}
-use Rattle.dep_resolve.specs.Growing.{HasNotedAll}
-use Rattle.dep_resolve.proofs.noting.note_all.Given as goal
-
-abbrev pub invariant-loop-place : goal.invariant-loop-place
-invariant-loop-place l =
-    HasNotedAll l.catalogue.troves l.installed (take l.place-index l.places) l.fn.fresh l.fresh l.fn.doubted l.doubted l.fn.replaced.items l.replaced.items

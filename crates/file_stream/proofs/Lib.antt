@@ -1,5 +1,0 @@
-pub mod Fields
-pub mod Owners
-pub mod Records
-pub mod RecordLaws
-pub mod Digests

@@ -1,8 +1,0 @@
-use Rattle.file_stream.proofs.Records.{same_front, encoded_alike, not_root}
-use Rattle.file_stream.proofs.laws.distinct_records.Goals as goal
-
-pub returns-clause-unique : goal.returns-clause-unique
-returns-clause-unique c = same_front
-
-pub returns-clause-both : goal.returns-clause-both
-returns-clause-both c = λ rec. (not_root rec, encoded_alike rec)

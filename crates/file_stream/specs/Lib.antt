@@ -1,3 +1,0 @@
-pub mod Owner
-pub mod Record
-pub mod Reading
