@@ -110,7 +110,7 @@ fn written_flags(alloc: Global, bytes: &[u8]) -> Result<(Vec<FlavorFlag>, &[u8])
 }
 
 // The flags at the front in the order of their words, and the bytes after them.
-#[tactic(auto, unfolding(crate::specs::Reading::ordered_flags_at))]
+#[tactic(auto, unfolding(crate::specs::FlavorReading::ordered_flags_at))]
 fn flags_of(alloc: Global, bytes: &[u8]) -> Result<(Flags, &[u8]), TextFault>
     ensures { Gives (λ r. (r.0, r.1.now)) result (ordered_flags_at bytes.now) }
 {
@@ -135,7 +135,7 @@ fn own_flags_of(alloc: Global, bytes: &[u8]) -> Result<(Flags, &[u8]), TextFault
 }
 
 // A set at the front, and the bytes after it.
-#[tactic(auto, unfolding(crate::specs::Reading::set_at))]
+#[tactic(auto, unfolding(crate::specs::FlavorReading::set_at))]
 fn set_of(alloc: Global, bytes: &[u8]) -> Result<(InstructionSet, &[u8]), TextFault>
     ensures { Gives (λ r. (r.0, r.1.now)) result (set_at bytes.now) }
 {
@@ -175,7 +175,7 @@ fn after_is(bytes: &[u8]) -> Option<&[u8]>
 }
 
 // The sets after `is:`, in the order of their words.
-#[tactic(auto, unfolding(crate::specs::Reading::sets_part_at))]
+#[tactic(auto, unfolding(crate::specs::FlavorReading::sets_part_at))]
 fn sets_part_of(alloc: Global, bytes: &[u8]) -> Result<InstructionSets, TextFault>
     ensures { Gives (λ sets. sets) result (sets_part_at bytes.now) }
 {
@@ -189,7 +189,7 @@ fn sets_part_of(alloc: Global, bytes: &[u8]) -> Result<InstructionSets, TextFaul
 }
 
 // The sets after the flags, in the order of their words.
-#[tactic(auto, unfolding(crate::specs::Reading::sets_after_at))]
+#[tactic(auto, unfolding(crate::specs::FlavorReading::sets_after_at))]
 fn sets_after_flags(alloc: Global, bytes: &[u8]) -> Result<InstructionSets, TextFault>
     ensures { Gives (λ sets. sets) result (sets_after_at bytes.now) }
 {
@@ -203,7 +203,7 @@ fn sets_after_flags(alloc: Global, bytes: &[u8]) -> Result<InstructionSets, Text
 }
 
 /// The flags and sets that a relaxed text spells, each list in the order of its words.
-#[tactic(auto, unfolding(crate::specs::Reading::parts_at))]
+#[tactic(auto, unfolding(crate::specs::FlavorReading::parts_at))]
 pub(crate) fn parts_of(alloc: Global, bytes: &[u8]) -> Result<Parts, TextFault>
     ensures { Gives (λ parts. parts) result (parts_at bytes.now) }
 {
