@@ -3,6 +3,7 @@ pub mod ContentsRead
 pub mod Faults
 pub mod GoodItems
 pub mod Indexing
+pub mod Making
 pub mod Progress
 pub mod SameSet
 pub mod Small

@@ -2,6 +2,7 @@ pub mod ChangeSet
 pub mod Contents
 pub mod FirstFault
 pub mod Index
+pub mod Makes
 pub mod Reading
 pub mod TooLarge
 pub use Rattle.trove_stream.specs.cny-base

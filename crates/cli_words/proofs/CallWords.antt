@@ -11,16 +11,16 @@ use Rattle.cli_words.specs.declared.call_words.Kind.{Kind}
 use Rattle.cli_words.specs.declared.call_words.Kind.TheVariants as kind
 use Rattle.cli_words.specs.declared.words.Command.{Command}
 use Rattle.cli_words.specs.Calls.{AreCall, AreOfKind, IsCallOrMemory, ReadsCall, as_call, batch_of, demo_by, demo_of, kind_of, package_count}
-use Rattle.cli_words.specs.Words.{AreWords, OrMemory, ReadsWords, behind}
+use Rattle.cli_words.specs.Words.{alone, AreWords, OrMemory, ReadsWords, behind}
 
-pub of_kind : (words : List (List ℕ)) (k : Kind) → kind_of words ≡ k → (expected : Result Call Failure) → AreOfKind k words expected → AreCall words expected
+of_kind : (words : List (List ℕ)) (k : Kind) → kind_of words ≡ k → (expected : Result Call Failure) → AreOfKind k words expected → AreCall words expected
 of_kind words k is expected are = subst (λ (x : Kind). AreOfKind x words expected) (sym is) are
 
-pub to_kind : (words : List (List ℕ)) (k : Kind) → kind_of words ≡ k → (expected : Result Call Failure) → AreCall words expected → AreOfKind k words expected
+to_kind : (words : List (List ℕ)) (k : Kind) → kind_of words ≡ k → (expected : Result Call Failure) → AreCall words expected → AreOfKind k words expected
 to_kind words k is expected are = subst (λ (x : Kind). AreOfKind x words expected) is are
 
 -- what is so, is so or memory ran out
-pub call_is : (IsSo : Result Call Failure → Type 0) (r : Result Call Failure) → IsSo r → IsCallOrMemory IsSo r
+call_is : (IsSo : Result Call Failure → Type 0) (r : Result Call Failure) → IsSo r → IsCallOrMemory IsSo r
 call_is IsSo (Ok c) h = h
 call_is IsSo (Err failure.Memory) h = tt
 call_is IsSo (Err failure.Usage) h = h
@@ -31,6 +31,11 @@ call_is IsSo (Err failure.RootFault) h = h
 call_is IsSo (Err failure.RepositoryFault) h = h
 call_is IsSo (Err (failure.Damaged path)) h = h
 
+-- what stands alone is so where the call and usage are
+alone_so : (P : Result Call Failure → Type 0) (one : Call) → P (Ok one) → P (Err failure.Usage) → (words : List (List ℕ)) → P (alone one words)
+alone_so P one ok usage [] = ok
+alone_so P one ok usage (word ∷ words) = usage
+
 -- ---- several lines
 
 -- a call, or usage
@@ -39,15 +44,14 @@ IsPlain (Ok c) = Unit {0}
 IsPlain (Err failure.Usage) = Unit {0}
 IsPlain (Err _) = ⊥
 
-batch_plain : (words : List (List ℕ)) → IsPlain (batch_of words)
-batch_plain [] = tt
-batch_plain (word ∷ words) = tt
+pub batch_plain : (words : List (List ℕ)) → IsPlain (batch_of words)
+batch_plain words = alone_so IsPlain call.Batch tt tt words
 
 by_plain : (count : Option ℕ) → IsPlain (demo_by count)
 by_plain None = tt
 by_plain (Some packages) = tt
 
-demo_plain : (words : List (List ℕ)) → IsPlain (demo_of words)
+pub demo_plain : (words : List (List ℕ)) → IsPlain (demo_of words)
 demo_plain [] = tt
 demo_plain (word ∷ []) = by_plain (package_count word)
 demo_plain (word ∷ other ∷ words) = tt
@@ -57,13 +61,13 @@ plain_reads (Ok c) plain expected is = is
 plain_reads (Err failure.Usage) plain expected is = is
 plain_reads (Err _) plain expected is = absurd plain
 
--- the words behind the first one were read as this
-module _ (expected read : Result Call Failure) (words : List (List ℕ)) where
-  pub batch_reads : expected ≡ batch_of words → read ≡ batch_of words → ReadsCall expected read
-  batch_reads is same = subst (ReadsCall expected) (sym same) (plain_reads (batch_of words) (batch_plain words) expected is)
+-- the words of this kind were read as this, which is a call or usage
+module _ (words : List (List ℕ)) (k : Kind) (first : kind_of words ≡ k) (read : Result Call Failure) where
+  pub several_is : AreOfKind k words read → IsCallOrMemory (AreCall words) read
+  several_is are = call_is (AreCall words) read (of_kind words k first read are)
 
-  pub demo_reads : expected ≡ demo_of words → read ≡ demo_of words → ReadsCall expected read
-  demo_reads is same = subst (ReadsCall expected) (sym same) (plain_reads (demo_of words) (demo_plain words) expected is)
+  pub several_read : (expected meant : Result Call Failure) → AreCall words expected → (AreOfKind k words expected → expected ≡ meant) → IsPlain meant → read ≡ meant → ReadsCall expected read
+  several_read expected meant are mean plain same = subst (ReadsCall expected) (sym same) (plain_reads meant plain expected (mean (to_kind words k first expected are)))
 
 -- ---- one command
 
@@ -102,8 +106,7 @@ IsFew (Ok _) = Unit {0}
 IsFew (Err e) = Unit {0}
 
 batch_few : (words : List (List ℕ)) → IsFew (batch_of words)
-batch_few [] = tt
-batch_few (word ∷ words) = tt
+batch_few words = alone_so IsFew call.Batch tt tt words
 
 counted_few : (a b c : Bool) (packages : ℕ) → (c ≡ true → packages ≤ 200) → IsFew (demo_by (if a && (b && c) then Some packages else None))
 counted_few true true true packages few = few refl

@@ -1,11 +1,17 @@
 -- How reading words ends, by how the reading of their parts ends.
-use Rattle.std.proofs.Common.{◌≡◌, List, ℕ, Result, Ok, Err, refl, sym, ap, subst}
+use Rattle.std.proofs.Common.{◌≡◌, List, ℕ, IsTrue, Result, Ok, Err, refl, sym, ap, subst}
+use Rattle.std.specs.Prelude.{IfOk, IsErrOf}
+use Rattle.cny_version.specs.cny-base.declared.text.TextFault.{TextFault}
+use Rattle.cny_version.specs.cny-base.declared.text.TextFault.TheVariants as text
+use Rattle.cny_version.specs.Label.{is_label, IsLabelText, LabelParts, label_text}
+use Rattle.trove_spec.specs.declared.spec.Spec.{Spec}
+use Rattle.trove_spec.specs.Spec.{IsReadAs, IsSpecText}
 use Rattle.cny_laws.specs.declared.failure.Failure.{Failure}
 use Rattle.cny_laws.specs.declared.failure.Failure.TheVariants as failure
 use Rattle.cli_words.specs.declared.words.Command.{Command}
 use Rattle.cli_words.specs.declared.words.Form.{Form}
 use Rattle.cli_words.specs.declared.words.Form.TheVariants as form
-use Rattle.cli_words.specs.Words.{ReadsOnly, IsOrUsage, IsSend, IsMove, IsUpdate, ReadsWords, OrMemory, AreOfForm, AreWords, AreSomething, form_of_words, behind, command_of}
+use Rattle.cli_words.specs.Words.{ReadsOnly, IsLabelWord, IsOrUsage, made_of, or_usage, IsSend, IsMove, IsUpdate, ReadsWords, OrMemory, AreOfForm, AreWords, AreSomething, form_of_words, behind, command_of}
 
 -- where a part is none, the whole is none
 pub passed_on : {A B : Type 0} (Is : A → Type 0) (Has : B → Type 0) → ((whole : B) → Has whole → (part : A) × Is part) → (e : Failure) → ReadsOnly Is (Err e) → ReadsOnly Has (Err e)
@@ -49,6 +55,36 @@ other_is expected (Err failure.Usage) reads = sym reads
 other_is expected (Err (failure.Refused r)) reads = sym reads
 other_is expected (Err failure.Memory) reads = tt
 other_is expected _ reads = absurd reads
+
+-- ---- words behind the first one, which were read so
+
+module _ (words rest : List (List ℕ)) (same : rest ≡ behind words) (Is : List (List ℕ) → Command → Type 0) (r : Result Command Failure) (reads : ReadsOnly (Is rest) r) where
+  pub behind_read : (expected : Result Command Failure) → IsOrUsage (Is (behind words)) expected → ReadsWords expected r
+  behind_read expected is = reads_words (Is rest) r reads expected (subst (λ (l : List (List ℕ)). IsOrUsage (Is l) expected) (sym same) is)
+
+  pub behind_is : OrMemory (IsOrUsage (Is (behind words))) r
+  behind_is = subst (λ (l : List (List ℕ)). OrMemory (IsOrUsage (Is l)) r) same (read_is (Is rest) r reads)
+
+-- ---- the command of what was read
+
+pub made_reads : {A : Type 0} (make : A → Command) (read : Result A Failure) (e : Failure) → ReadsWords read (Err e) → ReadsWords (made_of make read) (Err e)
+made_reads make read failure.Memory reads = tt
+made_reads make read failure.Usage reads = ap (made_of make) reads
+made_reads make read (failure.Refused r) reads = ap (made_of make) reads
+made_reads make read _ reads = absurd reads
+
+-- ---- one text
+
+pub spec_reads : (word : List ℕ) (r : Result Spec TextFault) → IfOk r (IsSpecText word) → ((meant : Spec) → IsSpecText word meant → IsReadAs r meant) → ReadsOnly (IsSpecText word) (or_usage r)
+spec_reads word (Ok spec) found only = record { is = found; only = only }
+spec_reads word (Err text.Bad) found only = record { none = λ spec is. only spec is }
+spec_reads word (Err text.Memory) found only = tt
+
+pub label_reads : (word : List ℕ) (r : Result LabelParts TextFault) → IfOk r (λ label. word ≡ label_text label) → IfOk r (λ label. IsTrue (is_label label))
+    → ((label : LabelParts) → IsTrue (is_label label) → word ≡ label_text label → IfOk r (λ read. read ≡ label)) → (IsErrOf r text.Bad → ¬ IsLabelText word) → ReadsOnly (IsLabelWord word) (or_usage r)
+label_reads word (Ok label) spelled valid only none = record { is = record { valid = valid; spelled = spelled }; only = λ other is. only other is.valid is.spelled }
+label_reads word (Err text.Bad) spelled valid only none = record { none = λ label is. none refl (label, is.valid, is.spelled) }
+label_reads word (Err text.Memory) spelled valid only none = tt
 
 -- ---- words are something
 

@@ -9,7 +9,7 @@ use Rattle.cli_words.specs.declared.call_words.Call.TheVariants as call
 use Rattle.cli_words.specs.declared.call_words.Kind.{Kind}
 use Rattle.cli_words.specs.declared.call_words.Kind.TheVariants as kind
 use Rattle.cli_words.specs.declared.words.Command.{Command}
-use Rattle.cli_words.specs.Words.{AreWords, behind}
+use Rattle.cli_words.specs.Words.{alone, AreWords, behind, OrMemory, ReadsWords}
 
 -- what the first word says
 abbrev pub kind_of : List (List ℕ) → Kind
@@ -21,8 +21,7 @@ kind_of (word ∷ words) =
 
 -- `batch` stands alone
 abbrev pub batch_of : List (List ℕ) → Result Call Failure
-batch_of [] = Ok call.Batch
-batch_of (word ∷ words) = Err failure.Usage
+batch_of words = alone call.Batch words
 
 -- from 1 to 200, in decimal digits without a leading zero
 abbrev pub package_count : List ℕ → Option ℕ
@@ -61,13 +60,8 @@ AreCall words expected = AreOfKind (kind_of words) words expected
 
 -- The words were read as this, or memory ran out.
 abbrev pub ReadsCall : Result Call Failure → Result Call Failure → Type 0
-ReadsCall expected (Ok c) = expected ≡ Ok c
-ReadsCall expected (Err failure.Memory) = Unit {0}
-ReadsCall expected (Err failure.Usage) = expected ≡ Err failure.Usage
-ReadsCall expected (Err (failure.Refused r)) = expected ≡ Err (failure.Refused r)
-ReadsCall expected (Err _) = ⊥
+ReadsCall expected read = ReadsWords expected read
 
 -- What was read is so, unless memory ran out.
 abbrev pub IsCallOrMemory : (Result Call Failure → Type 0) → Result Call Failure → Type 0
-IsCallOrMemory IsSo (Err failure.Memory) = Unit {0}
-IsCallOrMemory IsSo read = IsSo read
+IsCallOrMemory IsSo read = OrMemory IsSo read

@@ -5,6 +5,8 @@ use Rattle.std.specs.Str.{bytes_eq}
 use Rattle.cny_version.specs.cny-base.Name.{is_name}
 use Rattle.cny_version.specs.cny-base.Number.{is_decimal, decimal_value}
 use Rattle.cny_version.specs.cny-base.declared.options.Options.{Options}
+use Rattle.cny_version.specs.cny-base.declared.text.TextFault.{TextFault}
+use Rattle.cny_version.specs.cny-base.declared.text.TextFault.TheVariants as text
 use Rattle.cny_version.specs.Label.{LabelParts, label_text, is_label}
 use Rattle.trove_spec.specs.Spec.{IsSpecText}
 use Rattle.repo_shadow.specs.declared.way.Way.{Way}
@@ -57,23 +59,18 @@ update_options_at words =
 
 -- ---- the commands that take no specification
 
--- behind the options of `install` nothing stands
-abbrev pub install_with : Options → List (List ℕ) → Result Command Failure
-install_with options [] = Ok (command.Install options)
-install_with options (word ∷ words) = Err failure.Usage
+-- what takes no word, or none behind its options
+abbrev pub alone : {A : Type 0} → A → List (List ℕ) → Result A Failure
+alone one [] = Ok one
+alone one (word ∷ words) = Err failure.Usage
 
 -- `install`, with its options directly behind it
 abbrev pub install_of : List (List ℕ) → Result Command Failure
-install_of words = let read = options_at words in install_with read.0 read.1
-
--- behind the options of `sync` nothing stands
-abbrev pub sync_with : Options → List (List ℕ) → Result Command Failure
-sync_with options [] = Ok (command.Sync options)
-sync_with options (word ∷ words) = Err failure.Usage
+install_of words = let read = options_at words in alone (command.Install read.0) read.1
 
 -- `sync`, with its options directly behind it
 abbrev pub sync_of : List (List ℕ) → Result Command Failure
-sync_of words = let read = options_at words in sync_with read.0 read.1
+sync_of words = let read = options_at words in alone (command.Sync read.0) read.1
 
 -- each word is a name, and they aren't more than a command takes
 abbrev pub are_names : List (List ℕ) → Bool
@@ -114,11 +111,20 @@ rollback_of [] = Ok (command.Rollback None)
 rollback_of (word ∷ []) = rollback_to (job_number word)
 rollback_of (word ∷ other ∷ words) = Err failure.Usage
 
--- `q`: all installed troves, or the one of a name; another word is usage
+-- one name, or none; a further word is usage
+abbrev pub name_or_none : List (List ℕ) → Result (Option (List ℕ)) Failure
+name_or_none [] = Ok None
+name_or_none (word ∷ []) = if is_name word then Ok (Some word) else Err failure.Usage
+name_or_none (word ∷ other ∷ words) = Err failure.Usage
+
+-- the command of what was read
+abbrev pub made_of : {A : Type 0} → (A → Command) → Result A Failure → Result Command Failure
+made_of make (Ok x) = Ok (make x)
+made_of make (Err e) = Err e
+
+-- `q`: all installed troves, or the one of a name
 abbrev pub installed_of : List (List ℕ) → Result Command Failure
-installed_of [] = Ok (command.ListInstalled None)
-installed_of (word ∷ []) = if is_name word then Ok (command.ListInstalled (Some word)) else Err failure.Usage
-installed_of (word ∷ other ∷ words) = Err failure.Usage
+installed_of words = made_of command.ListInstalled (name_or_none words)
 
 -- behind the option of `verify` stand names, at most 64, or none
 abbrev pub verify_with : Bool → List (List ℕ) → Result Command Failure
@@ -129,21 +135,11 @@ abbrev pub verify_of : List (List ℕ) → Result Command Failure
 verify_of [] = verify_with false []
 verify_of (word ∷ words) = if bytes_eq word (codes "--full") then verify_with true words else verify_with false (word ∷ words)
 
--- `rblist` stands alone
-abbrev pub jobs_of : List (List ℕ) → Result Command Failure
-jobs_of [] = Ok command.ListJobs
-jobs_of (word ∷ words) = Err failure.Usage
-
 -- `localcs`: one name
 abbrev pub local_of : List (List ℕ) → Result Command Failure
 local_of [] = Err failure.Usage
 local_of (word ∷ []) = if is_name word then Ok (command.LocalChanges word) else Err failure.Usage
 local_of (word ∷ other ∷ words) = Err failure.Usage
-
--- `showcs` stands alone
-abbrev pub show_of : List (List ℕ) → Result Command Failure
-show_of [] = Ok command.ShowChangeSet
-show_of (word ∷ words) = Err failure.Usage
 
 -- `cook` stands alone, or with `--next` behind it
 abbrev pub cook_of : List (List ℕ) → Result Command Failure
@@ -151,21 +147,9 @@ cook_of [] = Ok (command.Cook false)
 cook_of (word ∷ []) = if bytes_eq word (codes "--next") then Ok (command.Cook true) else Err failure.Usage
 cook_of (word ∷ other ∷ words) = Err failure.Usage
 
--- `commit` stands alone
-abbrev pub commit_words : List (List ℕ) → Result Command Failure
-commit_words [] = Ok command.Commit
-commit_words (word ∷ words) = Err failure.Usage
-
--- `rq`: all committed troves, or those of a name; another word is usage
+-- `rq`: all committed troves, or those of a name
 abbrev pub list_of : List (List ℕ) → Result Command Failure
-list_of [] = Ok (command.ListCommitted None)
-list_of (word ∷ []) = if is_name word then Ok (command.ListCommitted (Some word)) else Err failure.Usage
-list_of (word ∷ other ∷ words) = Err failure.Usage
-
--- `serve` stands alone
-abbrev pub serve_of : List (List ℕ) → Result Command Failure
-serve_of [] = Ok command.Serve
-serve_of (word ∷ words) = Err failure.Usage
+list_of words = made_of command.ListCommitted (name_or_none words)
 
 -- `mirror`, with `ask` or `take` behind it
 abbrev pub mirror_of : List (List ℕ) → Result Command Failure
@@ -195,11 +179,11 @@ update_of words = let read = update_options_at words in update_with read.0 read.
 -- the commands of the repository, and the one that reads neither disk
 unfoldable pub repository_of : List ℕ → List (List ℕ) → Result Command Failure
 repository_of word words =
-    if bytes_eq word (codes "showcs") then show_of words
+    if bytes_eq word (codes "showcs") then alone command.ShowChangeSet words
     else if bytes_eq word (codes "cook") then cook_of words
-    else if bytes_eq word (codes "commit") then commit_words words
+    else if bytes_eq word (codes "commit") then alone command.Commit words
     else if bytes_eq word (codes "rq") then list_of words
-    else if bytes_eq word (codes "serve") then serve_of words
+    else if bytes_eq word (codes "serve") then alone command.Serve words
     else if bytes_eq word (codes "mirror") then mirror_of words
     else Err failure.Usage
 
@@ -208,7 +192,7 @@ unfoldable pub reading_of : List ℕ → List (List ℕ) → Result Command Fail
 reading_of word words =
     if bytes_eq word (codes "q") then installed_of words
     else if bytes_eq word (codes "verify") then verify_of words
-    else if bytes_eq word (codes "rblist") then jobs_of words
+    else if bytes_eq word (codes "rblist") then alone command.ListJobs words
     else if bytes_eq word (codes "localcs") then local_of words
     else repository_of word words
 
@@ -349,8 +333,14 @@ ReadsOnly Is (Err failure.Usage) = HasNone Is
 ReadsOnly Is (Err failure.Memory) = Unit {0}
 ReadsOnly Is (Err _) = ⊥
 
+-- what the reading of a text answers, where other texts are usage
+abbrev pub or_usage : {A : Type 0} → Result A TextFault → Result A Failure
+or_usage (Ok x) = Ok x
+or_usage (Err text.Bad) = Err failure.Usage
+or_usage (Err text.Memory) = Err failure.Memory
+
 -- The words were read as this, or memory ran out.
-abbrev pub ReadsWords : Result Command Failure → Result Command Failure → Type 0
+abbrev pub ReadsWords : {A : Type 0} → Result A Failure → Result A Failure → Type 0
 ReadsWords expected (Ok c) = expected ≡ Ok c
 ReadsWords expected (Err failure.Memory) = Unit {0}
 ReadsWords expected (Err failure.Usage) = expected ≡ Err failure.Usage
@@ -358,6 +348,6 @@ ReadsWords expected (Err (failure.Refused r)) = expected ≡ Err (failure.Refuse
 ReadsWords expected (Err _) = ⊥
 
 -- What was read is so, unless memory ran out.
-abbrev pub OrMemory : (Result Command Failure → Type 0) → Result Command Failure → Type 0
+abbrev pub OrMemory : {A : Type 0} → (Result A Failure → Type 0) → Result A Failure → Type 0
 OrMemory IsSo (Err failure.Memory) = Unit {0}
 OrMemory IsSo read = IsSo read

@@ -2,9 +2,9 @@
 ghost use Rattle.std.specs.Prelude.{◌≡◌, Result, string_bytes, map};
 ghost use Rattle.cny_laws.specs.declared.failure.Failure.{Failure};
 ghost use Rattle.cli_words.specs.declared.call_words.Call.{Call};
-ghost use Rattle.cli_words.specs.Calls.{AreCall, batch_of, demo_of, IsCallOrMemory, kind_of as kind_by_first, package_count as count_of_packages, ReadsCall};
+ghost use Rattle.cli_words.specs.Calls.{AreCall, demo_of, IsCallOrMemory, kind_of as kind_by_first, package_count as count_of_packages, ReadsCall};
 
-use crate::words::{Command, read_words, words_behind};
+use crate::words::{Command, alone, read_words, words_behind};
 use cny_laws::Failure;
 use cny_version::cny_base::read_decimal;
 use std::alloc::Global;
@@ -47,16 +47,6 @@ fn kind_of(words: &[String]) -> Kind
     Kind::Single
 }
 
-// The words after `batch`.
-fn read_lines_call(words: &[String]) -> Result<Call, Failure>
-    ensures { result ≡ batch_of (map string_bytes words.now) }
-{
-    if words.is_empty() {
-        return Ok(Call::Batch);
-    }
-    Err(Failure::Usage)
-}
-
 // The number of packages that a word is.
 fn package_count(word: &[u8]) -> Option<u64>
     ensures { result ≡ count_of_packages word.now }
@@ -92,7 +82,7 @@ pub fn read_call(alloc: Global, words: &[String]) -> Result<Call, Failure>
     ensures read { (expected : Result Call Failure) → AreCall (map string_bytes words.now) expected → ReadsCall expected result }
 {
     match kind_of(words) {
-        Kind::Batch => read_lines_call(words_behind(words)),
+        Kind::Batch => alone(words_behind(words), Call::Batch),
         Kind::Demo => read_demo(words_behind(words)),
         Kind::Single => {
             let command = read_words(alloc, words)?;

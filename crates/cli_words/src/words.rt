@@ -6,7 +6,7 @@ ghost use Rattle.cny_version.specs.cny-base.declared.text.TextFault.TheVariants 
 ghost use Rattle.trove_spec.specs.Spec.{IsSpecText};
 ghost use Rattle.cny_laws.specs.declared.failure.Failure.{Failure};
 ghost use Rattle.cli_words.specs.declared.words.Command.{Command};
-ghost use Rattle.cli_words.specs.Words.{AreGivenSpecs, AreSomething, AreWords, is_input, IsUpdate, IsUpdateWith, update_form, update_of, update_option_at, update_options_at, update_with, behind, form_of_words, IsGiven, IsLabelWord, IsMove, IsSend, is_short_word, are_names, job_number, erase_of, erase_with, installed_of, jobs_of, local_of, verify_with, option_at, options_at, rollback_of, verify_of, changing_of, command_of, reading_of, repository_of, commit_words, cook_of, install_of, list_of, mirror_of, serve_of, show_of, sync_of, OrMemory, ReadsOnly, ReadsWords};
+ghost use Rattle.cli_words.specs.Words.{alone, AreGivenSpecs, AreSomething, AreWords, is_input, name_or_none, or_usage, IsUpdate, IsUpdateWith, update_form, update_of, update_option_at, update_options_at, update_with, behind, form_of_words, IsGiven, IsLabelWord, IsMove, IsSend, is_short_word, are_names, job_number, erase_of, erase_with, installed_of, local_of, verify_with, option_at, options_at, rollback_of, verify_of, changing_of, command_of, reading_of, repository_of, cook_of, install_of, list_of, mirror_of, sync_of, OrMemory, ReadsOnly, ReadsWords};
 
 use cny_laws::Failure;
 use cny_version::Label;
@@ -160,15 +160,23 @@ fn options_at(words: &[String]) -> (Options, &[String])
     option_at(options, rest)
 }
 
+/// What takes no word, or none behind its options.
+pub(crate) fn alone<X: Drop>(words: &[String], one: X) -> Result<X, Failure>
+    ensures is { result ≡ alone one (map string_bytes words.now) }
+    ensures reads { ReadsWords (alone one (map string_bytes words.now)) result }
+{
+    if words.is_empty() {
+        return Ok(one);
+    }
+    Err(Failure::Usage)
+}
+
 // The words after `install`.
 fn read_install(words: &[String]) -> Result<Command, Failure>
     ensures { ReadsWords (install_of (map string_bytes words.now)) result }
 {
     let (options, rest) = options_at(words);
-    if rest.is_empty() {
-        return Ok(Command::Install { options });
-    }
-    Err(Failure::Usage)
+    alone(rest, Command::Install { options })
 }
 
 // Whether the words are `-` alone.
@@ -245,10 +253,7 @@ fn read_sync(words: &[String]) -> Result<Command, Failure>
     ensures { ReadsWords (sync_of (map string_bytes words.now)) result }
 {
     let (options, rest) = options_at(words);
-    if rest.is_empty() {
-        return Ok(Command::Sync { options });
-    }
-    Err(Failure::Usage)
+    alone(rest, Command::Sync { options })
 }
 
 // The names that the words are, in their order. `Bad` exactly where they are too many, or one of them isn't a name.
@@ -334,21 +339,29 @@ fn read_rollback(words: &[String]) -> Result<Command, Failure>
     }
 }
 
-// The words after `q`.
-fn read_installed(alloc: Global, words: &[String]) -> Result<Command, Failure>
-    ensures { ReadsWords (installed_of (map string_bytes words.now)) result }
+// The name that the words are, where there is one.
+fn name_or_none(alloc: Global, words: &[String]) -> Result<Option<Name>, Failure>
+    ensures { ReadsWords (name_or_none (map string_bytes words.now)) result }
 {
     let [word, rest @ ..] = words else {
-        return Ok(Command::ListInstalled { name: None });
+        return Ok(None);
     };
     if !rest.is_empty() {
         return Err(Failure::Usage);
     }
     match Name::read(alloc, word.as_str()) {
-        Ok(name) => Ok(Command::ListInstalled { name: Some(name) }),
+        Ok(name) => Ok(Some(name)),
         Err(TextFault::Bad) => Err(Failure::Usage),
         Err(TextFault::Memory) => Err(Failure::Memory),
     }
+}
+
+// The words after `q`.
+fn read_installed(alloc: Global, words: &[String]) -> Result<Command, Failure>
+    ensures { ReadsWords (installed_of (map string_bytes words.now)) result }
+{
+    let name = name_or_none(alloc, words)?;
+    Ok(Command::ListInstalled { name })
 }
 
 // The names after the option of `verify`.
@@ -375,16 +388,6 @@ fn read_verify(alloc: Global, words: &[String]) -> Result<Command, Failure>
     read_verified(alloc, false, words)
 }
 
-// The words after `rblist`.
-fn read_jobs(words: &[String]) -> Result<Command, Failure>
-    ensures { ReadsWords (jobs_of (map string_bytes words.now)) result }
-{
-    if words.is_empty() {
-        return Ok(Command::ListJobs);
-    }
-    Err(Failure::Usage)
-}
-
 // The words after `localcs`.
 fn read_local(alloc: Global, words: &[String]) -> Result<Command, Failure>
     ensures { ReadsWords (local_of (map string_bytes words.now)) result }
@@ -400,16 +403,6 @@ fn read_local(alloc: Global, words: &[String]) -> Result<Command, Failure>
         Err(TextFault::Bad) => Err(Failure::Usage),
         Err(TextFault::Memory) => Err(Failure::Memory),
     }
-}
-
-// The words after `showcs`.
-fn read_show(words: &[String]) -> Result<Command, Failure>
-    ensures { ReadsWords (show_of (map string_bytes words.now)) result }
-{
-    if words.is_empty() {
-        return Ok(Command::ShowChangeSet);
-    }
-    Err(Failure::Usage)
 }
 
 // The words after `cook`.
@@ -428,41 +421,12 @@ fn read_cook(words: &[String]) -> Result<Command, Failure>
     Err(Failure::Usage)
 }
 
-// The words after `commit`.
-fn read_commit(words: &[String]) -> Result<Command, Failure>
-    ensures { ReadsWords (commit_words (map string_bytes words.now)) result }
-{
-    if words.is_empty() {
-        return Ok(Command::Commit);
-    }
-    Err(Failure::Usage)
-}
-
 // The words after `rq`.
 fn read_list(alloc: Global, words: &[String]) -> Result<Command, Failure>
     ensures { ReadsWords (list_of (map string_bytes words.now)) result }
 {
-    let [word, rest @ ..] = words else {
-        return Ok(Command::ListCommitted { name: None });
-    };
-    if !rest.is_empty() {
-        return Err(Failure::Usage);
-    }
-    match Name::read(alloc, word.as_str()) {
-        Ok(name) => Ok(Command::ListCommitted { name: Some(name) }),
-        Err(TextFault::Bad) => Err(Failure::Usage),
-        Err(TextFault::Memory) => Err(Failure::Memory),
-    }
-}
-
-// The words after `serve`.
-fn read_serve(words: &[String]) -> Result<Command, Failure>
-    ensures { ReadsWords (serve_of (map string_bytes words.now)) result }
-{
-    if words.is_empty() {
-        return Ok(Command::Serve);
-    }
-    Err(Failure::Usage)
+    let name = name_or_none(alloc, words)?;
+    Ok(Command::ListCommitted { name })
 }
 
 // The words after `mirror`.
@@ -491,15 +455,22 @@ fn is_short(word: &str) -> bool
     word.len() <= WORD_LIMIT
 }
 
+// What the reading of a text answers, where other texts are usage.
+fn or_usage<X>(read: Result<X, TextFault>) -> Result<X, Failure>
+    ensures { result ≡ or_usage read }
+{
+    match read {
+        Ok(value) => Ok(value),
+        Err(TextFault::Bad) => Err(Failure::Usage),
+        Err(TextFault::Memory) => Err(Failure::Memory),
+    }
+}
+
 // The specification whose text a word is.
 fn spec_of(alloc: Global, word: &str) -> Result<Spec, Failure>
     ensures { ReadsOnly (IsSpecText word.now) result }
 {
-    match Spec::read(alloc, word) {
-        Ok(spec) => Ok(spec),
-        Err(TextFault::Bad) => Err(Failure::Usage),
-        Err(TextFault::Memory) => Err(Failure::Memory),
-    }
+    or_usage(Spec::read(alloc, word))
 }
 
 // The same with its text.
@@ -518,11 +489,7 @@ fn read_spec(alloc: Global, word: &str) -> Result<GivenSpec, Failure>
 fn read_label(alloc: Global, word: &str) -> Result<Label, Failure>
     ensures { ReadsOnly (IsLabelWord word.now) result }
 {
-    match Label::read(alloc, word) {
-        Ok(label) => Ok(label),
-        Err(TextFault::Bad) => Err(Failure::Usage),
-        Err(TextFault::Memory) => Err(Failure::Memory),
-    }
+    or_usage(Label::read(alloc, word))
 }
 
 // One word after `changeset`.
@@ -630,19 +597,19 @@ fn read_of_repository(alloc: Global, word: &str, rest: &[String]) -> Result<Comm
     ensures { ReadsWords (repository_of word.now (map string_bytes rest.now)) result }
 {
     if word == "showcs" {
-        return read_show(rest);
+        return alone(rest, Command::ShowChangeSet);
     }
     if word == "cook" {
         return read_cook(rest);
     }
     if word == "commit" {
-        return read_commit(rest);
+        return alone(rest, Command::Commit);
     }
     if word == "rq" {
         return read_list(alloc, rest);
     }
     if word == "serve" {
-        return read_serve(rest);
+        return alone(rest, Command::Serve);
     }
     if word == "mirror" {
         return read_mirror(rest);
@@ -662,7 +629,7 @@ fn read_reading(alloc: Global, word: &str, rest: &[String]) -> Result<Command, F
         return read_verify(alloc, rest);
     }
     if word == "rblist" {
-        return read_jobs(rest);
+        return alone(rest, Command::ListJobs);
     }
     if word == "localcs" {
         return read_local(alloc, rest);

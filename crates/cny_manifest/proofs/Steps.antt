@@ -1,9 +1,11 @@
 -- Steps from item to item.
 use Rattle.std.proofs.Common.{◌≡◌, ℕ, Bool, true, false, List, [], ◌∷◌, ◌++◌, flat_map, Option, Some, None, Result, Ok, Err, refl, sym, ap, ◌∙◌, subst, append_assoc, append-nil}
+use Rattle.std.specs.Prelude.{IsErrAnd}
 use Rattle.std.proofs.lemmas.Bool.{true≢false}
 use Rattle.std.proofs.lemmas.List.Concat.{flat_map-append}
 use Rattle.manifest_troves.specs.cny-base.declared.text.TextFault.{TextFault}
 use Rattle.manifest_troves.specs.cny-base.declared.text.TextFault.TheVariants as text
+use Rattle.manifest_troves.proofs.cny-base.Passing.{err_is}
 use Rattle.cny_manifest.specs.declared.entries.FileLine.{FileLine}
 use Rattle.cny_manifest.specs.declared.fault.Unread.{Unread}
 use Rattle.cny_manifest.specs.declared.fault.ReadError.{ReadError}
@@ -35,15 +37,23 @@ as_only found (Err text.Memory) is = tt
 pub line_taken : {X : Type 0} (Q : X → Type 0) (can : X → Bool) (next : X → Progress) (x : X) → IsOnly Q x → can x ≡ true → IsOnly (LineOf Q can next) (next x)
 line_taken Q can next x one is = ((x, one.0, is, refl), λ q other. other.3 ∙ ap next (one.1 other.0 other.1))
 
+-- the same where it leads to a body that is told otherwise
+pub line_takes : {X : Type 0} (Q : X → Type 0) (can : X → Bool) (with : X → Body) (x : X) → IsOnly Q x → can x ≡ true → (new : Body) → new ≡ with x → IsOnly (LineOf Q can (λ y. InBody (with y))) (InBody new)
+line_takes Q can with x one is new same = subst (λ (d : Body). IsOnly (LineOf Q can (λ y. InBody (with y))) (InBody d)) (sym same) (line_taken Q can (λ y. InBody (with y)) x one is)
+
 pub line_barred : {X : Type 0} (Q : X → Type 0) (can : X → Bool) (next : X → Progress) (x : X) → IsOnly Q x → can x ≡ false → (q : Progress) → LineOf Q can next q → ⊥
 line_barred Q can next x one not q other = true≢false (sym other.2 ∙ ap can (one.1 other.0 other.1) ∙ not)
 
 pub line_none : {X : Type 0} (Q : X → Type 0) (can : X → Bool) (next : X → Progress) → ((x : X) → Q x → ⊥) → (q : Progress) → LineOf Q can next q → ⊥
 line_none Q can next none q other = none other.0 other.1
 
-pub not_read : {X : Type 0} (Q : X → Type 0) (can : X → Bool) (next : X → Progress) (q : Progress) (e : TextFault) → ReadsOnly Q (Err e) → Takes (LineOf Q can next) q (Err e)
+not_read : {X : Type 0} (Q : X → Type 0) (can : X → Bool) (next : X → Progress) (q : Progress) (e : TextFault) → ReadsOnly Q (Err e) → Takes (LineOf Q can next) q (Err e)
 not_read Q can next q text.Bad none = line_none Q can next none
 not_read Q can next q text.Memory none = tt
+
+-- where its value isn't read, that is handed on
+pub line_unread : {X : Type 0} (Q : X → Type 0) (can : X → Bool) (next : X → Progress) (q : Progress) (e : TextFault) → ReadsOnly Q (Err e) → (r : Result Unit TextFault) → IsErrAnd r (λ f. f ≡ e) → Takes (LineOf Q can next) q r
+line_unread Q can next q e none r handed = err_is (Takes (LineOf Q can next) q) r e handed (not_read Q can next q e none)
 
 -- ---- items
 

@@ -1,8 +1,9 @@
 -- Lines behind the version, by their words.
-use Rattle.std.proofs.Common.{◌≡◌, ℕ, ◌<◌, true, false, List, [], ◌∷◌, ◌++◌, length, Option, Some, None, Result, Ok, Err, refl, sym, ap, ◌∙◌, subst, inl, inr, ⊎_elim, arith, length-append, codes, nat_le}
-use Rattle.std.specs.Prelude.{IfErr}
+use Rattle.std.proofs.Common.{◌≡◌, ℕ, ◌<◌, true, false, List, [], ◌∷◌, ◌++◌, length, Option, Some, None, Result, Ok, Err, refl, sym, ap, ◌∙◌, subst, inl, inr, ⊎_elim, arith, length-append, codes, nat_le, Bor}
+use Rattle.std.specs.Prelude.{IfErr, IfOk}
 use Rattle.std.specs.Str.{bytes_eq}
 use Rattle.std.proofs.lemmas.Bool.{true≢false, leb-true, le-leb}
+use Rattle.std.proofs.lemmas.Result.{IfOk-weaker}
 use Rattle.manifest_troves.specs.cny-base.declared.limits.TheConstants.{CONTENT_LIMIT}
 use Rattle.manifest_troves.specs.cny-base.declared.text.TextFault.{TextFault}
 use Rattle.cny_manifest.specs.declared.entries.FileLine.{FileLine}
@@ -53,6 +54,12 @@ line_shorter rest line behind at =
     let cut = line_cut rest (line, behind) at in
     let long : length rest ≡ length (with_feed line ++ behind) = ap length cut.spelled in
     omega (arith, long, length-append (with_feed line) behind, length-append line (10 ∷ []))
+
+-- and so is what is left of it
+pub behind_shorter : (rest line behind : List ℕ) → line_at rest ≡ Ok (line, behind) → {E : Type 0} (r : Result (Bor (List ℕ)) E) → IfOk r (λ after. length after.now < length behind) → IfOk r (λ after. length after.now < length rest)
+behind_shorter rest line behind at r shorter =
+    let longer = line_shorter rest line behind at in
+    IfOk-weaker r (λ after. length after.now < length behind) (λ after. length after.now < length rest) (λ after lt. omega (arith, lt, longer)) shorter
 
 -- and so is what is behind a content
 pub content_shorter : (size : ℕ) (rest content after : List ℕ) → content_at size rest ≡ Ok (content, after) → length after < length rest

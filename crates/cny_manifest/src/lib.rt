@@ -21,4 +21,5 @@ pub use made::Made;
 pub use manifest_troves::{
     Troves, change_set, cny_base, cny_stream, component_of, trove_parts, trove_stream,
 };
+pub use order::is_own;
 pub use reading::read;

@@ -2,7 +2,6 @@
 ghost use Rattle.std.specs.Prelude.{◌≡◌};
 ghost use Rattle.std.specs.Ordering.{is_lt};
 ghost use Rattle.manifest_troves.specs.cny-base.Name.{kind_of_name};
-ghost use Rattle.manifest_troves.specs.trove-stream.Trove.{begins_with_colon, is_component_of};
 ghost use Rattle.manifest_troves.specs.trove-parts.Order.{id_cmp};
 ghost use Rattle.cny_manifest.specs.Body as spec;
 ghost use Rattle.cny_manifest.specs.Body.{is_above, dep_line_cmp};
@@ -10,6 +9,7 @@ ghost use Rattle.cny_manifest.specs.Body.{is_above, dep_line_cmp};
 use manifest_troves::DepLine;
 use manifest_troves::cny_base::{Name, NameKind, Path};
 use manifest_troves::trove_parts::{FileAt, TroveId};
+use manifest_troves::trove_stream::is_component_of;
 
 /// Whether the path is above the last one.
 pub(crate) fn is_above_path(files: &[FileAt], path: &Path) -> bool
@@ -49,27 +49,8 @@ pub(crate) fn is_above_line(lines: &[DepLine], line: &DepLine) -> bool
     }
 }
 
-fn begins_with_colon(bytes: &[u8]) -> bool
-    ensures { result ≡ begins_with_colon bytes.now }
-{
-    match bytes {
-        [] => false,
-        [first, ..] => *first == b':',
-    }
-}
-
-// Whether the name is the package's, a colon and more.
-fn is_component_of(whole: &[u8], name: &[u8]) -> bool
-    ensures { result ≡ is_component_of whole.now name.now }
-{
-    match name.strip_prefix(whole) {
-        None => false,
-        Some(rest) => begins_with_colon(rest),
-    }
-}
-
 /// Whether the name is that of the component, or of a component of the package.
-pub(crate) fn is_own(whole: &Name, name: &Name) -> bool
+pub fn is_own(whole: &Name, name: &Name) -> bool
     ensures { result ≡ spec.is_own_by (kind_of_name whole.now) whole.now name.now }
 {
     match whole.kind() {

@@ -38,19 +38,12 @@ use Rattle.cny_pack.specs.declared.stop.PackStop.{PackStop}
 use Rattle.cny_pack.specs.declared.stop.PackStop.TheVariants as pack
 use Rattle.cny_pack.specs.declared.stop.Unfit.{Unfit}
 use Rattle.cny_pack.specs.declared.stop.Unfit.TheVariants as unfit
+use Rattle.tree_disk.proofs.cny-base.OptionValues.{same_some}
 use Rattle.cny_pack.proofs.Entering.{for_from}
-use Rattle.cny_pack.proofs.Planning.{by_bytes, pair_path, sights_rise, fit_of, WasSeen, each_seen, there}
+use Rattle.cny_pack.proofs.Planning.{some_there, by_bytes, pair_path, sights_rise, fit_of, WasSeen, each_seen, there}
 use Rattle.cny_pack.proofs.Refusing.{begins_rest}
 
 -- ---- what stands in the tree
-
-seen_there : (o : Option Look) → is_some o ≡ true → (look : Look) × (o ≡ Some look)
-seen_there None is = absurd (cc is)
-seen_there (Some look) is = (look, refl)
-
-stood : (o : Option Node) → is_some o ≡ true → (node : Node) × (o ≡ Some node)
-stood None is = absurd (cc is)
-stood (Some node) is = (node, refl)
 
 not_nothing : (n : Node) → sees_nothing (seen_as (Some n)) ≡ false
 not_nothing (node.Dir mode) = refl
@@ -85,13 +78,13 @@ module _ (t : Tree) (seen : Found) (finds : FindsAll t seen) (ordered : IsOrdere
     where
       all_in : (p : Name) → stands t p ≡ true → p ≢ root → (IsTrue skip → unfit_of p (look_of t p) ≡ None) → is_there p (sights_of seen.entries) ≡ true
       all_in p here other may =
-          let was = seen_there (seen_at seen p) (finds.all p here other) in
+          let was = some_there (seen_at seen p) (finds.all p here other) in
           let sights = finds.sights p was.0 was.1 in
           let fitting : unfit_of p was.0 ≡ None = ⊎_elim
           (λ skips. ap (unfit_of p) sights.0 ∙ may skips)
           (λ keeps. fit_at p was.0 seen.entries (fit keeps) was.1)
           (cases_Bool skip) in
-          let node = stood (tree.get t p) here in
+          let node = some_there (tree.get t p) here in
           let some : sees_nothing was.0 ≡ false = ap sees_nothing (sights.0 ∙ ap seen_as node.1) ∙ not_nothing node.0 in
           there p was.0 seen.entries was.1 (fits_by p was.0 fitting some)
 
@@ -129,8 +122,8 @@ module _ (t : Tree) (seen : Found) (finds : FindsAll t seen) (ordered : IsOrdere
         here = at.1;
         not_root = at.2;
         why_is = ap (unfit_of pair.0) (sym at.0) ∙ is;
-        first = λ q stood other less.
-            let was = seen_there (seen_at seen q) (finds.all q stood other) in
+        first = λ q stands_there other less.
+            let was = some_there (seen_at seen q) (finds.all q stands_there other) in
             let sight = finds.sights q was.0 was.1 in
             ap (unfit_of q) (sym sight.0)
             ∙ fit_before q pair.0 was.0 pair.1 done rest less
@@ -170,27 +163,16 @@ module _ (owns : Name → OwnerNames → Type 0) (lacks : Name → Type 0) (rule
   judge_cause id requires_ provides sights pack.DiskFailed meant is = absurd is
   judge_cause id requires_ provides sights pack.SinkFailed meant is = absurd is
 
-  no_change : (path : Name) (look : Look) → unfit_of path look ≡ Some unfit.Changed → ⊥
-  no_change path look is = at (is_forbidden path (sees_dir look)) (size_seen look) is
+  -- a look tells of a size that is too large, or of a path that is reserved, and of nothing else
+  no_other : (why : Unfit) → ((size : ℕ) → unfit.TooLarge size ≡ why → ⊥) → (unfit.Reserved ≡ why → ⊥) → (path : Name) (look : Look) → unfit_of path look ≡ Some why → ⊥
+  no_other why small free path look is = at (is_forbidden path (sees_dir look)) (size_seen look) is
     where
-      by : (over : Bool) (size : ℕ) → (if over then Some (unfit.TooLarge size) else None) ≡ Some unfit.Changed → ⊥
-      by true size is = cc is
+      by : (over : Bool) (size : ℕ) → (if over then Some (unfit.TooLarge size) else None) ≡ Some why → ⊥
+      by true size is = small size (same_some (unfit.TooLarge size) why is)
       by false size is = cc is
 
-      at : (forbidden : Bool) (size : Option ℕ) → (if forbidden then Some unfit.Reserved else unfit_by_size size) ≡ Some unfit.Changed → ⊥
-      at true size is = cc is
-      at false None is = cc is
-      at false (Some size) is = by (nat_lt CONTENT_LIMIT size) size is
-
-  no_owner : (path : Name) (look : Look) → unfit_of path look ≡ Some unfit.NoOwner → ⊥
-  no_owner path look is = at (is_forbidden path (sees_dir look)) (size_seen look) is
-    where
-      by : (over : Bool) (size : ℕ) → (if over then Some (unfit.TooLarge size) else None) ≡ Some unfit.NoOwner → ⊥
-      by true size is = cc is
-      by false size is = cc is
-
-      at : (forbidden : Bool) (size : Option ℕ) → (if forbidden then Some unfit.Reserved else unfit_by_size size) ≡ Some unfit.NoOwner → ⊥
-      at true size is = cc is
+      at : (forbidden : Bool) (size : Option ℕ) → (if forbidden then Some unfit.Reserved else unfit_by_size size) ≡ Some why → ⊥
+      at true size is = free (same_some unfit.Reserved why is)
       at false None is = cc is
       at false (Some size) is = by (nat_lt CONTENT_LIMIT size) size is
 
@@ -208,8 +190,8 @@ module _ (owns : Name → OwnerNames → Type 0) (lacks : Name → Type 0) (rule
     pub refused_cause : (stop : PackStop) → RefusesFirst seen.entries rules.skip stop → IsCause owns lacks rules tells t words disk sink stop
     refused_cause (pack.Unfit path (unfit.TooLarge size)) is = refused is.0 is.2 is.1 path (unfit.TooLarge size) is.3 (is.4 is.5.2) is.5.0 is.5.1 is.5.2
     refused_cause (pack.Unfit path unfit.Reserved) is = refused is.0 is.2 is.1 path unfit.Reserved is.3 (is.4 is.5.2) is.5.0 is.5.1 is.5.2
-    refused_cause (pack.Unfit path unfit.Changed) is = absurd (no_change is.1.0 is.1.1 is.5.1)
-    refused_cause (pack.Unfit path unfit.NoOwner) is = absurd (no_owner is.1.0 is.1.1 is.5.1)
+    refused_cause (pack.Unfit path unfit.Changed) is = absurd (no_other unfit.Changed (λ size e. cc e) (λ e. cc e) is.1.0 is.1.1 is.5.1)
+    refused_cause (pack.Unfit path unfit.NoOwner) is = absurd (no_other unfit.NoOwner (λ size e. cc e) (λ e. cc e) is.1.0 is.1.1 is.5.1)
     refused_cause pack.Memory is = tt
     refused_cause (pack.Word word) is = absurd is.5
     refused_cause pack.NoTroves is = absurd is.5

@@ -1,5 +1,5 @@
 -- Runs that only read a disk, one behind the other.
-use Rattle.std.proofs.Common.{◌≡◌, Result, Ok, Err, refl}
+use Rattle.std.proofs.Common.{◌≡◌, Result, Ok, Err, refl, sym, subst}
 use Rattle.std.specs.Prelude.{IsErrAnd, OnOk}
 use Rattle.tree_disk.specs.cny-base.Count.{Rose}
 use Rattle.tree_disk.specs.cny-base.declared.refusal.Refusal.{Refusal}
@@ -11,6 +11,7 @@ use Rattle.tree_disk.specs.Tree.{Tree}
 use Rattle.tree_disk.proofs.StepLaws.{tests_answer, tests_stop, tests_memory, tests_then}
 use Rattle.cny_pack.specs.Halts.{IsHalt, IsLookStop, Never}
 use Rattle.cny_pack.specs.Stops.{halt_of_step, stop_of_step}
+use Rattle.cny_pack.specs.declared.stop.Halt.{Halt}
 use Rattle.cny_pack.specs.Walk.{OnlyLooks}
 
 never : {Y : Type 0} (y : Y) (refusal : Refusal) (A : Type 0) → (let x : Result Y Refusal = Ok y in x ≡ Err refusal) → A
@@ -51,6 +52,9 @@ module _ {D X Y : Type 0} {disk : DiskModel D} {view : X → Y} {test : Tree →
   step_halts (Damaged path) is run = absurd is
   step_halts FarFailed is run = absurd is
   step_halts (FarDamaged path) is run = absurd is
+
+  pub halted : (e : Stop) (halt : Halt) → halt ≡ halt_of_step e → IsDiskStop e → Tests disk view test old new (Err e) → IsHalt Never (Rose (disk.faults old) (disk.faults new)) ⊥ halt
+  halted e halt is stops run = subst (IsHalt Never (Rose (disk.faults old) (disk.faults new)) ⊥) (sym is) (step_halts e stops run)
 
   pub step_stops : (e : Stop) → IsDiskStop e → Tests disk view test old new (Err e) → IsLookStop (Rose (disk.faults old) (disk.faults new)) (stop_of_step e)
   step_stops Failed is run = run.found

@@ -1,5 +1,5 @@
 -- What is written is a manifest, and that of the tree.
-use Rattle.std.proofs.Common.{◌≡◌, ◌≢◌, ℕ, Bool, true, false, IsTrue, ◌||◌, List, [], ◌∷◌, ◌++◌, map, flat_map, Option, Some, None, is_some, refl, sym, ap, subst, ◌∙◌, append_assoc, append-nil, codes}
+use Rattle.std.proofs.Common.{◌≡◌, ◌≢◌, ℕ, Bool, true, false, IsTrue, ◌||◌, List, [], ◌∷◌, ◌++◌, map, flat_map, Option, Some, None, refl, sym, ap, subst, ◌∙◌, append_assoc, append-nil, codes}
 use Rattle.std.specs.Prelude.{All}
 use Rattle.std.specs.FinMap as tree
 use Rattle.std.specs.Io.KnownBytes.{Appends}
@@ -37,7 +37,7 @@ use Rattle.cny_pack.specs.declared.head.Words.{Words}
 use Rattle.cny_pack.specs.declared.pattern.Pattern.{Pattern}
 use Rattle.cny_pack.specs.declared.plan.Rules.{Rules}
 use Rattle.cny_pack.specs.declared.plan.Sight.{Sight}
-use Rattle.cny_pack.proofs.Planning.{by_bytes, sorted_pull}
+use Rattle.cny_pack.proofs.Planning.{by_bytes, some_there, sorted_pull}
 use Rattle.cny_pack.proofs.Standing.{troves_alike, alike_entries}
 
 -- ---- the bytes
@@ -148,10 +148,6 @@ pack_is owns config tells t words head sights entries head_is judged sorted are 
 
 -- ---- the nodes of a tree that is told
 
-stood : (o : Option Node) → is_some o ≡ true → (node : Node) × (o ≡ Some node)
-stood None is = absurd (cc is)
-stood (Some node) is = (node, refl)
-
 module _ (owns : Name → OwnerNames → Type 0) (rules : Rules) (tells : Bool) (t : Tree) (told : IsTrue tells) where
   entry_in : (path : Name) (n : Node) (entry : Entry) → tree.get t path ≡ Some n → path ≢ root → unfit_of path (look_of t path) ≡ None → IsEntryFor owns rules.config.now tells t path (seen_as (Some n)) entry → IsEntryIn owns rules t entry
   entry_in path (node.Dir mode) entry is other fit named =
@@ -170,7 +166,7 @@ module _ (owns : Name → OwnerNames → Type 0) (rules : Rules) (tells : Bool) 
 
   one_in : (sight : Sight) (entry : Entry) → IsSightIn t sight → IsEntryFor owns rules.config.now tells t sight.path sight.look entry → IsEntryIn owns rules t entry
   one_in sight entry here is =
-      let found = stood (tree.get t sight.path) here.here in
+      let found = some_there (tree.get t sight.path) here.here in
       entry_in sight.path found.0 entry found.1 here.not_root here.fits (subst (λ (l : Look). IsEntryFor owns rules.config.now tells t sight.path l entry) (here.seen ∙ ap seen_as found.1) is)
 
   each_in : (sights : List Sight) (entries : List Entry) → All (IsSightIn t) sights → AllZip (IsEntryOfSight owns rules.config.now tells t) sights entries → All (IsEntryIn owns rules t) entries

@@ -49,6 +49,12 @@ unfolding IsStrictlySortedBy
 sorted_put f cmp [] sorted = tt
 sorted_put f cmp (x ∷ xs) sorted = (all_put f (λ y. cmp (f x) y ≡ Less) xs sorted.0, sorted_put f cmp xs sorted.1)
 
+-- ---- values that are there
+
+pub some_there : {A : Type 0} (o : Option A) → is_some o ≡ true → (x : A) × (o ≡ Some x)
+some_there None is = absurd (cc is)
+some_there (Some x) is = (x, refl)
+
 -- ---- what can be in a manifest
 
 pub sights_more : (xs ys : List (Name × Look)) → sights_of (xs ++ ys) ≡ sights_of xs ++ sights_of ys

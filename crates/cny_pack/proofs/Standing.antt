@@ -24,7 +24,7 @@ use Rattle.manifest_troves.specs.trove-stream.Trove.{IsTrove, KeepsKind, HasRefs
 use Rattle.manifest_troves.specs.declared.lines.DepLine.{DepLine}
 use Rattle.manifest_troves.specs.declared.lines.TroveLines.{TroveLines}
 use Rattle.manifest_troves.specs.Troves.{AreTroves, troves_of, component_names, component_trove, package_of, package_troves, whole_component, entry_component, falls_to, with_names, name_of_line}
-use Rattle.manifest_troves.proofs.Components.{troves_package, troves_component, troves_group}
+use Rattle.manifest_troves.proofs.Components.{troves_of_kind}
 use Rattle.manifest_troves.proofs.cny-stream.Digests.{digest_long}
 use Rattle.cny_manifest.specs.Spelling.{Entry, DirEntry, FileEntry, LinkEntry, file_at, IsEntry}
 use Rattle.cny_pack.specs.Entries.{flags_at, IsEntryFor, IsEntryOfSight}
@@ -148,20 +148,20 @@ module _ (id : TroveId) (requires_ provides : List DepLine) (fs gs : List FileAt
 
       at : (kind : NameKind) → kind_of_name id.name ≡ kind → All IsTrove (troves_of m)
       at Component is =
-          subst (All IsTrove) (sym (troves_component (lines_with id requires_ provides gs) is))
+          subst (All IsTrove) (sym (troves_of_kind (lines_with id requires_ provides gs) Component is))
           (All-cons IsTrove (whole_component (lines_with id requires_ provides gs)) []
           (trove_alike (whole_component (lines_with id requires_ provides fs)) fs gs all
-          (All-head IsTrove (whole_component (lines_with id requires_ provides fs)) [] (subst (All IsTrove) (troves_component (lines_with id requires_ provides fs) is) are)))
+          (All-head IsTrove (whole_component (lines_with id requires_ provides fs)) [] (subst (All IsTrove) (troves_of_kind (lines_with id requires_ provides fs) Component is) are)))
           (All-nil IsTrove))
       at Package is =
           let names : List (List ℕ) = component_names (lines_with id requires_ provides fs) in
-          let old : All IsTrove (package_troves (lines_with id requires_ provides fs) names) = subst (All IsTrove) (troves_package (lines_with id requires_ provides fs) is) are in
-          subst (All IsTrove) (sym (troves_package (lines_with id requires_ provides gs) is))
+          let old : All IsTrove (package_troves (lines_with id requires_ provides fs) names) = subst (All IsTrove) (troves_of_kind (lines_with id requires_ provides fs) Package is) are in
+          subst (All IsTrove) (sym (troves_of_kind (lines_with id requires_ provides gs) Package is))
           (subst (λ (ns : List (List ℕ)). All IsTrove (package_troves (lines_with id requires_ provides gs) ns)) (sym names_alike)
           (All-cons IsTrove (package_of id names) (map (component_trove (lines_with id requires_ provides gs)) names)
           (All-head IsTrove (package_of id names) (map (component_trove (lines_with id requires_ provides fs)) names) old)
           (components_alike names (All-tail IsTrove (package_of id names) (map (component_trove (lines_with id requires_ provides fs)) names) old))))
-      at Group is = subst (All IsTrove) (troves_group (lines_with id requires_ provides fs) is ∙ sym (troves_group (lines_with id requires_ provides gs) is)) are
+      at Group is = subst (All IsTrove) (troves_of_kind (lines_with id requires_ provides fs) Group is ∙ sym (troves_of_kind (lines_with id requires_ provides gs) Group is)) are
 
 -- ---- what stands for what was seen
 

@@ -13,10 +13,12 @@ halt_of_flow flow.Failed = halt.SinkFailed
 halt_of_flow flow.Memory = halt.Memory
 
 -- a step of a disk stops by a fault or for want of memory alone
+abbrev pub by_step : {E : Type 0} → E → E → Stop → E
+by_step failed memory stop.Failed = failed
+by_step failed memory _ = memory
+
 abbrev pub halt_of_step : Stop → Halt
-halt_of_step stop.Failed = halt.DiskFailed
-halt_of_step _ = halt.Memory
+halt_of_step stop = by_step halt.DiskFailed halt.Memory stop
 
 abbrev pub stop_of_step : Stop → PackStop
-stop_of_step stop.Failed = pack.DiskFailed
-stop_of_step _ = pack.Memory
+stop_of_step stop = by_step pack.DiskFailed pack.Memory stop

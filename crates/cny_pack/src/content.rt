@@ -8,7 +8,7 @@ ghost use Rattle.cny_pack.specs.Entries.{IsFileOf};
 ghost use Rattle.cny_pack.specs.Gives.{GivesContent, GivesPiece};
 ghost use Rattle.cny_pack.specs.Halts.{IsHalt, Never, OnlyChanged};
 
-use crate::stop::{Halt, Unfit, halt_of};
+use crate::stop::{Halt, Unfit, by_step};
 use std::alloc::Global;
 use tree_disk::cny_base::{Path, Sink};
 use tree_disk::{TreeDisk, steps};
@@ -45,7 +45,7 @@ fn read_piece<D: TreeDisk>(
 {
     match steps::read_at(alloc, disk, path, at, buf) {
         Ok(count) => Ok(count),
-        Err(stop) => Err(halt_of(stop)),
+        Err(stop) => Err(by_step(stop, Halt::DiskFailed, Halt::Memory)),
     }
 }
 
@@ -77,7 +77,7 @@ fn size_now<D: TreeDisk>(alloc: Global, disk: &mut D, path: &Path) -> Result<Opt
 {
     match steps::look(alloc, disk, path) {
         Ok(look) => Ok(look.size()),
-        Err(stop) => Err(halt_of(stop)),
+        Err(stop) => Err(by_step(stop, Halt::DiskFailed, Halt::Memory)),
     }
 }
 

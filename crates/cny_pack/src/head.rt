@@ -5,7 +5,7 @@ ghost use Rattle.cny_dep.specs.Spelling.{IsRelaxedText};
 ghost use Rattle.cny_dep.specs.declared.parts.Parts.{Parts};
 ghost use Rattle.cny_version.specs.Version.{WholeVersion};
 ghost use Rattle.manifest_troves.specs.cny-base.Name.{is_name, kind_of_name};
-ghost use Rattle.cny_manifest.specs.Body.{is_own_by, is_group_kind};
+ghost use Rattle.cny_manifest.specs.Body.{is_group_kind};
 ghost use Rattle.cny_manifest.specs.Grammar.{kind_word, IsDepField, IsLine, IsVersionField};
 ghost use Rattle.cny_manifest.specs.Spelling.{IsOwnLine};
 ghost use Rattle.cny_pack.specs.Causes.{CanName, CanVersion, CanFlavor, CanFlavorPart, CanId, CanOwn, CanDep, HasBadDep, AreGood};
@@ -17,9 +17,9 @@ ghost use Rattle.cny_pack.specs.Head.{AddsLine, AddsName, AddsVersion, AddsFlavo
 use crate::lines::is_line;
 use crate::stop::{BadWord, PackStop};
 use cny_dep::{Dep, Flavor};
+use cny_manifest::is_own;
 use cny_version::Version;
 use manifest_troves::trove_parts::TroveId;
-use manifest_troves::trove_stream::is_component_of;
 use manifest_troves::{DepLine, DepLines};
 use std::alloc::Global;
 use std::collections::BTreeSet;
@@ -203,17 +203,6 @@ fn push_id(alloc: Global, text: &mut Bytes, words: Words<'_>) -> Result<TroveId,
         version,
         flavor,
     })
-}
-
-// Whether the component is the one of the manifest, or one of its package.
-fn is_own(whole: &Name, name: &Name) -> bool
-    ensures { result ≡ is_own_by (kind_of_name whole.now) whole.now name.now }
-{
-    match whole.kind() {
-        NameKind::Component => name.text().as_bytes() == whole.text().as_bytes(),
-        NameKind::Package => is_component_of(whole.text().as_bytes(), name.text().as_bytes()),
-        NameKind::Group => false,
-    }
 }
 
 // A component of its own, and a dependency.

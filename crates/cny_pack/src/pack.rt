@@ -15,7 +15,7 @@ use crate::judge::judge;
 use crate::owners::Owners;
 use crate::pattern::Pattern;
 use crate::plan::{Rules, Sight, plan};
-use crate::stop::{PackStop, stop_of};
+use crate::stop::{PackStop, by_step};
 use crate::walk::{Seen, find_all};
 use std::alloc::Global;
 use tree_disk::cny_base::{Bytes, FlowFault, Sink};
@@ -66,7 +66,7 @@ fn find<D: TreeDisk>(alloc: Global, disk: &mut D) -> Result<Seen, PackStop>
 {
     match find_all(alloc, disk) {
         Ok(seen) => Ok(seen),
-        Err(stop) => Err(stop_of(stop)),
+        Err(stop) => Err(by_step(stop, PackStop::DiskFailed, PackStop::Memory)),
     }
 }
 

@@ -103,26 +103,14 @@ impl From<FlowFault> for Halt {
     }
 }
 
-/// What a step over the disk that stopped makes of an entry.
-pub(crate) fn halt_of(stop: Stop) -> Halt
+/// What a step over the disk that stopped makes of what is above it: it failed, or no memory was left.
+pub(crate) fn by_step<E: Drop>(stop: Stop, failed: E, memory: E) -> E
     requires { IsDiskStop stop }
-    ensures { result ≡ spec.halt_of_step stop }
+    ensures { result ≡ spec.by_step failed memory stop }
 {
     match stop {
-        Stop::Failed => Halt::DiskFailed,
-        Stop::Memory => Halt::Memory,
-        _ => unreachable!(),
-    }
-}
-
-/// What a step over the disk that stopped makes of the whole.
-pub(crate) fn stop_of(stop: Stop) -> PackStop
-    requires { IsDiskStop stop }
-    ensures { result ≡ spec.stop_of_step stop }
-{
-    match stop {
-        Stop::Failed => PackStop::DiskFailed,
-        Stop::Memory => PackStop::Memory,
+        Stop::Failed => failed,
+        Stop::Memory => memory,
         _ => unreachable!(),
     }
 }

@@ -1,23 +1,23 @@
 -- The troves of a package, of a component and of a group.
 use Rattle.std.proofs.Common.{◌≡◌, ℕ, zero, suc, ◌<◌, false, IsTrue, List, [], ◌∷◌, ◌++◌, map, Some, Result, Err, refl, sym, ap, ◌∙◌, subst, append_assoc, slice_get, get_or, length, arith}
-use Rattle.std.specs.Prelude.{All, Contains}
+use Rattle.std.specs.Prelude.{All, Contains, IsErrAnd}
 use Rattle.std.specs.BTreeSet.{insert_key}
 use Rattle.std.specs.Ordering.{match_ordering}
 use Rattle.std.specs.declared.cmp.Ordering.{Ordering}
 use Rattle.std.specs.declared.cmp.Ordering.TheVariants.{Less, Equal, Greater}
 use Rattle.std.proofs.lemmas.Bool.{true≢false}
 use Rattle.std.proofs.lemmas.List.{map-append}
+use Rattle.std.proofs.lemmas.Result.{err_from_is_err_and}
 use Rattle.std.proofs.lemmas.List.Elements.{All-nil, All-cons, All-head, All-tail, All-push, All-contains, All-contains_itself}
 use Rattle.change_set.specs.cny-base.Name.{is_name, kind_of_name}
 use Rattle.change_set.specs.cny-base.declared.name.NameKind.{NameKind}
-use Rattle.change_set.specs.cny-base.declared.name.NameKind.TheVariants.{Component, Package, Group}
 use Rattle.change_set.specs.cny-base.declared.text.TextFault.{TextFault}
 use Rattle.change_set.specs.cny-base.declared.text.TextFault.TheVariants.{Bad}
 use Rattle.change_set.specs.trove-parts.declared.id.TroveId.{TroveId}
 use Rattle.change_set.specs.trove-stream.declared.parts.TroveParts.{TroveParts}
 use Rattle.change_set.specs.trove-stream.Trove.{IsTrove}
 use Rattle.manifest_troves.specs.declared.lines.TroveLines.{TroveLines}
-use Rattle.manifest_troves.specs.Troves.{entry_component, name_of_line, with_names, with_name, HasBadName, component_names, component_trove, package_of, package_troves, whole_component, group_trove, troves_by, troves_of}
+use Rattle.manifest_troves.specs.Troves.{entry_component, name_of_line, with_names, with_name, HasBadName, component_names, component_trove, package_of, package_troves, troves_by, troves_of}
 use Rattle.manifest_troves.proofs.Names.{by_bytes, tied}
 
 -- ---- names in a set
@@ -72,23 +72,24 @@ handed_bad {A} {B} r e f given same is =
 
 -- ---- the troves of each kind
 
-pub troves_package : (l : TroveLines) → kind_of_name l.id.name ≡ Package → troves_of l ≡ package_troves l (component_names l)
+-- the troves of lines are those of the kind of their name
+pub troves_of_kind : (l : TroveLines) (kind : NameKind) → kind_of_name l.id.name ≡ kind → troves_of l ≡ troves_by kind l
 unfolding troves_of
-troves_package l e = ap (λ (k : NameKind). troves_by k l) e
+troves_of_kind l kind e = ap (λ (k : NameKind). troves_by k l) e
 
-pub troves_component : (l : TroveLines) → kind_of_name l.id.name ≡ Component → troves_of l ≡ whole_component l ∷ []
-unfolding troves_of
-troves_component l e = ap (λ (k : NameKind). troves_by k l) e
+-- lines that make this trove alone
+module _ (l : TroveLines) (trove : TroveParts) (alone : troves_of l ≡ trove ∷ []) where
+  pub alone_ok : (made : TroveParts) (troves : List TroveParts) → made ≡ trove → troves ≡ made ∷ [] → troves ≡ troves_of l
+  alone_ok made troves is one = one ∙ ap (λ (t : TroveParts). t ∷ []) is ∙ sym alone
 
-pub troves_group : (l : TroveLines) → kind_of_name l.id.name ≡ Group → troves_of l ≡ group_trove l ∷ []
-unfolding troves_of
-troves_group l e = ap (λ (k : NameKind). troves_by k l) e
+  pub alone_are : (made : TroveParts) → made ≡ trove → IsTrove made → All IsTrove (troves_of l)
+  alone_are made is good = subst (All IsTrove) (ap (λ (t : TroveParts). t ∷ []) is ∙ sym alone) (All-cons IsTrove made [] good (All-nil IsTrove))
 
-pub one_barred : (trove : TroveParts) → (IsTrove trove → ⊥) → All IsTrove (trove ∷ []) → ⊥
-one_barred trove bad all = bad (All-head IsTrove trove [] all)
-
-pub one_trove : (trove : TroveParts) → IsTrove trove → All IsTrove (trove ∷ [])
-one_trove trove is = All-cons IsTrove trove [] is (All-nil IsTrove)
+  -- where making the trove ends with a fault, which is handed on
+  pub alone_bad : {A B : Type 0} (f : TextFault) (r : Result A TextFault) → (◌≡◌ {A = Result B TextFault} (Err f) (Err Bad) → IsTrove trove → ⊥) → IsErrAnd r (λ e. e ≡ f) → r ≡ Err Bad → All IsTrove (troves_of l) → ⊥
+  alone_bad f r bad handed is are =
+      let p = err_from_is_err_and r handed in
+      bad (handed_bad r p.0 f p.1 p.2 is) (All-head IsTrove trove [] (subst (All IsTrove) alone are))
 
 -- ---- an element among those that are mapped
 

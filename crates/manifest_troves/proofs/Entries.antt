@@ -11,7 +11,7 @@ use Rattle.change_set.specs.trove-parts.declared.files.FileAt.{FileAt}
 use Rattle.manifest_troves.specs.declared.lines.TroveLines.{TroveLines}
 use Rattle.manifest_troves.specs.Troves.{entry_component, component_names, falls_to, component_trove, package_troves, troves_of, has_entry, KeepsEntries}
 use Rattle.manifest_troves.proofs.Names.{has, or_true}
-use Rattle.manifest_troves.proofs.Components.{troves_package, troves_component}
+use Rattle.manifest_troves.proofs.Components.{troves_of_kind}
 use Rattle.manifest_troves.proofs.Sharing.{used_is}
 use Rattle.change_set.proofs.cny-base.ByteLists.{bytes_mean as bytes_are, equal_bytes}
 use Rattle.change_set.proofs.cny-base.Bools.{or_left as or_first}
@@ -76,9 +76,9 @@ package_keeps l test any =
     (any_passes test one.x (filter (falls_to l.id.name name) l.files) (filter_keeps (falls_to l.id.name name) one.x l.files one.is_in falls) one.passes)
 
 by_kind : (kind : NameKind) (l : TroveLines) (test : FileAt → Bool) → kind_of_name l.id.name ≡ kind → kind_of_name l.id.name ≢ Group → list_any test l.files ≡ true → list_any (has_entry test) (troves_of l) ≡ true
-by_kind Component l test e other any = rw (troves_component l e) (ap (λ (b : Bool). b || false) any)
+by_kind Component l test e other any = rw (troves_of_kind l Component e) (ap (λ (b : Bool). b || false) any)
 by_kind Group l test e other any = absurd (other e)
-by_kind Package l test e other any = rw (troves_package l e) (package_keeps l test any)
+by_kind Package l test e other any = rw (troves_of_kind l Package e) (package_keeps l test any)
 
 pub entries_kept : (l : TroveLines) → KeepsEntries l (troves_of l)
 entries_kept l test other any = by_kind (kind_of_name l.id.name) l test refl other any

@@ -21,7 +21,7 @@ use Rattle.change_set.specs.trove-stream.Trove.{begins_with_colon, is_component_
 use Rattle.manifest_troves.specs.declared.lines.TroveLines.{TroveLines}
 use Rattle.manifest_troves.specs.Troves.{with_name, component_names, component_trove, package_of, package_troves, whole_component, group_trove, troves_of, AreTroves}
 use Rattle.manifest_troves.proofs.Names.{by_bytes}
-use Rattle.manifest_troves.proofs.Components.{troves_package, troves_component, troves_group}
+use Rattle.manifest_troves.proofs.Components.{troves_of_kind}
 use Rattle.manifest_troves.proofs.Sharing.{used_sorted}
 use Rattle.change_set.specs.trove-stream.NameOrder.{by_name_cmp, HasRisingNames}
 
@@ -84,11 +84,11 @@ package_rises l names kind sorted are =
     more_rise whole (map (component_trove l) names) (below_components l whole names refl (refs_are (kind_of_name l.id.name) whole kind is.rules.kind)) (components_rise l names sorted)
 
 by_kind : (kind : NameKind) (l : TroveLines) → kind_of_name l.id.name ≡ kind → AreTroves l → HasRisingNames (troves_of l)
-by_kind Component l e are = subst HasRisingNames (sym (troves_component l e)) (one_rises (whole_component l))
-by_kind Group l e are = subst HasRisingNames (sym (troves_group l e)) (one_rises (group_trove l))
+by_kind Component l e are = subst HasRisingNames (sym (troves_of_kind l Component e)) (one_rises (whole_component l))
+by_kind Group l e are = subst HasRisingNames (sym (troves_of_kind l Group e)) (one_rises (group_trove l))
 by_kind Package l e are =
-    subst HasRisingNames (sym (troves_package l e))
-    (package_rises l (component_names l) e (used_sorted l.id.name l.files l.requires_ l.provides) (subst (All IsTrove) (troves_package l e) are))
+    subst HasRisingNames (sym (troves_of_kind l Package e))
+    (package_rises l (component_names l) e (used_sorted l.id.name l.files l.requires_ l.provides) (subst (All IsTrove) (troves_of_kind l Package e) are))
 
 pub troves_rise : (l : TroveLines) → AreTroves l → HasRisingNames (troves_of l)
 troves_rise l are = by_kind (kind_of_name l.id.name) l refl are

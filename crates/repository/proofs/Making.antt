@@ -7,6 +7,8 @@ use Rattle.repo_load.specs.cny-base.declared.refusal.Fault.{Fault}
 use Rattle.repo_load.specs.cny-base.declared.refusal.Fault.TheVariants as fault
 use Rattle.repo_load.specs.trove-stream.Forbidden.{first_forbidden, IsReservedOrMemory}
 use Rattle.change_set.specs.Contents.{IfRefused}
+use Rattle.change_set.specs.Makes.{MakesTrove}
+use Rattle.change_set.proofs.Making.{make_push}
 use Rattle.std.proofs.lemmas.List.Elements.{All-cons, All-head, All-nil, All-push, All-tail}
 use Rattle.std.proofs.lemmas.List.Folds.{list_any_at}
 use Rattle.repo_load.specs.cny-base.declared.refusal.Refusal.{Refusal}
@@ -19,7 +21,7 @@ use Rattle.change_set.specs.declared.change.Part.TheVariants.{Whole, Relative}
 use Rattle.change_set.specs.ChangeSet.{has_record, IsPart}
 use Rattle.repo_index.specs.Catalogue.{CatalogueParts, found, IsExistsOrMemory}
 use Rattle.repo_load.specs.State.{AreNew, records_content, trove_records}
-use Rattle.repository.specs.Parts.{AreMade, HasPart, IsFirstRefused, IsPartRefused, IsTroveRefused, MakesTrove, MakeTroves, exists_already, path_reserved}
+use Rattle.repository.specs.Parts.{AreMade, base_among, HasPart, IsFirstRefused, IsPartRefused, IsTroveRefused, MakeTroves, exists_already, path_reserved}
 use Rattle.repository.proofs.Lists.{some_append}
 use Rattle.repo_load.proofs.Joined.{new_push}
 use Rattle.change_rel.proofs.cny-base.Faults.{stopped}
@@ -30,20 +32,13 @@ use Rattle.change_rel.proofs.cny-base.Bools.{or_left as or_first, or_right as or
 
 -- ---- one more part
 
-make_push : (committed : List TroveParts) (parts : List Part) (troves : List TroveParts) (part : Part) (trove : TroveParts) → MakeTroves committed parts troves → MakesTrove committed part trove
-    → MakeTroves committed (parts ++ part ∷ []) (troves ++ trove ∷ [])
-make_push committed [] [] part trove make one = (one, tt)
-make_push committed [] (t ∷ troves) part trove make one = absurd make
-make_push committed (p ∷ parts) [] part trove make one = absurd make
-make_push committed (p ∷ parts) (t ∷ troves) part trove make one = (make.0, make_push committed parts troves part trove make.1 one)
-
 pub none_made : (committed : List TroveParts) → AreMade committed [] []
 none_made committed = record { make = tt; new_ids = tt; allowed = All-nil IsAllowed }
 
 pub one_made : (committed : List TroveParts) (parts : List Part) (part : Part) (old new : CatalogueParts) → AreMade committed parts old.troves → HasPart committed part old new → AreMade committed (parts ++ part ∷ []) new.troves
 one_made committed parts part old new made has =
     subst (AreMade committed (parts ++ part ∷ [])) (ap (λ (c : CatalogueParts). c.troves) (sym has.is_added.added)) (record {
-      make = make_push committed parts old.troves part has.trove made.make has.makes;
+      make = make_push (base_among committed) parts old.troves part has.trove made.make has.makes;
       new_ids = new_push committed old.troves has.trove made.new_ids has.is_added.fresh;
       allowed = All-push IsAllowed old.troves has.trove made.allowed has.is_added.allowed;
     })
@@ -55,7 +50,7 @@ one_refused committed parts front part behind troves refusal is made refused =
 
 -- ---- what is made is a trove
 
-part_trove : (committed : List TroveParts) (part : Part) (trove : TroveParts) → IsPart part → MakesTrove committed part trove → IsTrove trove
+part_trove : (committed : List TroveParts) (part : Part) (trove : TroveParts) → IsPart part → MakesTrove (base_among committed) part trove → IsTrove trove
 part_trove committed (Whole t) trove is makes = subst IsTrove (sym makes) is
 part_trove committed (Relative rel) trove is makes = makes.leads.trove
 
@@ -71,7 +66,7 @@ made_troves_are committed (p ∷ parts) (t ∷ troves) are make =
 found_any : {A : Type 0} (P : A → Bool) (xs : List A) (x : A) → Contains xs x → P x ≡ true → list_any P xs ≡ true
 found_any P xs x c is = list_any_at P xs c.0 x c.1 (ap P c.2 ∙ is)
 
-part_records : (committed : List TroveParts) (part : Part) (trove : TroveParts) (name : List ℕ) (size : ℕ) → MakesTrove committed part trove → has_record name size part ≡ true → trove_records name size trove ≡ true
+part_records : (committed : List TroveParts) (part : Part) (trove : TroveParts) (name : List ℕ) (size : ℕ) → MakesTrove (base_among committed) part trove → has_record name size part ≡ true → trove_records name size trove ≡ true
 part_records committed (Whole t) trove name size makes h = ap (trove_records name size) makes ∙ h
 part_records committed (Relative rel) trove name size makes h =
     let file = any_found (λ (file : FileAt). has_name_and_size name size file.rec) rel.files_set h in
@@ -103,7 +98,7 @@ add_refused a b t (Ok x) given = tt
 add_refused a b t (Err (fault.Refused refusal)) given = exists_already (some_append t.id a b ∙ or_second (is_some (found t.id a)) (is_some (found t.id b)) given.1) given.0
 add_refused a b t (Err fault.Memory) given = tt
 
-pub part_refused : (committed before : List TroveParts) (part : Part) (t : TroveParts) (r : Result (Unit {0}) Fault) → MakesTrove committed part t → IfErr r (IfRefused (IsTroveRefused before t))
+pub part_refused : (committed before : List TroveParts) (part : Part) (t : TroveParts) (r : Result (Unit {0}) Fault) → MakesTrove (base_among committed) part t → IfErr r (IfRefused (IsTroveRefused before t))
     → IfErr r (IfRefused (IsPartRefused committed before part))
 part_refused committed before part t (Ok x) makes given = tt
 part_refused committed before part t (Err (fault.Refused refusal)) makes given = inr (record { trove = t; makes = makes; refused = given })

@@ -3,16 +3,16 @@ use Rattle.std.proofs.Common.{◌≡◌, inl, inr, List, [], ◌∷◌, ◌++◌
 use Rattle.std.specs.Prelude.{IsSome}
 use Rattle.std.proofs.lemmas.List.Elements.{All-head, All-tail}
 use Rattle.repo_load.specs.cny-base.declared.refusal.Refusal.{Refusal}
-use Rattle.repo_load.specs.trove-stream.declared.rel.RelParts.{RelParts}
 use Rattle.repo_load.specs.trove-stream.declared.parts.TroveParts.{TroveParts}
-use Rattle.change_rel.specs.trove-stream.Leads.{Leads}
 use Rattle.change_set.specs.declared.change.ChangeSet.{ChangeSet}
 use Rattle.change_set.specs.declared.change.Part.{Part}
-use Rattle.change_set.specs.declared.change.Part.TheVariants.{Whole, Relative}
 use Rattle.repo_load.specs.content-store.Contents.{ContentMap}
+use Rattle.change_set.specs.Makes.{MakesTrove}
+use Rattle.change_set.proofs.Making as making
+use Rattle.change_set.proofs.Making.{lacks_none, lacks_once, makes_once}
 use Rattle.repo_index.specs.Catalogue.{found, CatalogueParts}
 use Rattle.repo_load.specs.State.{catalogue_of, AreNew, RepositoryState}
-use Rattle.repository.specs.Parts.{AreMade, IsFirstRefused, IsLedTo, IsPartRefused, IsTroveRefused, LacksTrove, MakesTrove, MakeTroves, exists_already, path_reserved}
+use Rattle.repository.specs.Parts.{AreMade, base_among, IsFirstRefused, IsPartRefused, IsTroveRefused, MakeTroves, exists_already, path_reserved}
 use Rattle.repository.specs.Steps.{after_commit, IsCommitStep}
 use Rattle.repository.specs.Tests.{later_refusal, IsLaterRefused, IsRefused, Passes}
 use Rattle.change_rel.proofs.Unique.{LeadsToOne}
@@ -22,34 +22,13 @@ use Rattle.change_rel.proofs.cny-base.OptionValues.{same_some as some_one}
 -- ---- what parts make
 
 module _ (one : LeadsToOne) (committed : List TroveParts) where
-  led_once : (rel : RelParts) (a b : TroveParts) → IsLedTo committed rel a → IsLedTo committed rel b → a ≡ b
-  led_once rel a b x y =
-      let base : x.base ≡ y.base = some_one x.base y.base (sym x.stands ∙ y.stands) in
-      one rel y.base a b (subst (λ (t : TroveParts). Leads rel t a) base x.leads) y.leads
-
-  makes_once : (part : Part) (a b : TroveParts) → MakesTrove committed part a → MakesTrove committed part b → a ≡ b
-  makes_once (Whole trove) a b x y = x ∙ sym y
-  makes_once (Relative rel) a b x y = led_once rel a b x y
-
   pub make_once : (parts : List Part) (a b : List TroveParts) → MakeTroves committed parts a → MakeTroves committed parts b → a ≡ b
-  make_once [] [] [] x y = refl
-  make_once [] [] (u ∷ b) x y = absurd y
-  make_once [] (t ∷ a) b x y = absurd x
-  make_once (p ∷ parts) [] b x y = absurd x
-  make_once (p ∷ parts) (t ∷ a) [] x y = absurd y
-  make_once (p ∷ parts) (t ∷ a) (u ∷ b) x y =
-      let first = makes_once p t u x.0 y.0 in
-      let rest = make_once parts a b x.1 y.1 in
-      ap (λ (v : TroveParts). v ∷ a) first ∙ ap (λ (l : List TroveParts). u ∷ l) rest
+  make_once parts a b x y = making.make_once one (base_among committed) parts a b x y
 
   made_once : (parts : List Part) (a b : List TroveParts) → AreMade committed parts a → AreMade committed parts b → a ≡ b
   made_once parts a b x y = make_once parts a b x.make y.make
 
   -- ---- no part is refused where all are made
-
-  lacks_none : (part : Part) (t : TroveParts) (refusal : Refusal) → MakesTrove committed part t → LacksTrove committed part refusal → ⊥
-  lacks_none (Whole trove) t refusal makes lacks = absurd lacks
-  lacks_none (Relative rel) t refusal makes lacks = lacks.none t makes
 
   fresh_allowed : (before : List TroveParts) (t : TroveParts) (refusal : Refusal) → found t.id before ≡ None → IsAllowed t → IsTroveRefused before t refusal → ⊥
   fresh_allowed before t refusal fresh allowed (exists_already there is) = by (found t.id before) fresh there
@@ -59,10 +38,10 @@ module _ (one : LeadsToOne) (committed : List TroveParts) where
       by (Some u) none some = absurd (cc none)
   fresh_allowed before t refusal fresh allowed (path_reserved path free is why) = absurd (cc (allowed, is))
 
-  made_not_refused : (before : List TroveParts) (part : Part) (t : TroveParts) (refusal : Refusal) → MakesTrove committed part t → found t.id before ≡ None → IsAllowed t → IsPartRefused committed before part refusal → ⊥
-  made_not_refused before part t refusal makes fresh allowed (inl lacks) = lacks_none part t refusal makes lacks
+  made_not_refused : (before : List TroveParts) (part : Part) (t : TroveParts) (refusal : Refusal) → MakesTrove (base_among committed) part t → found t.id before ≡ None → IsAllowed t → IsPartRefused committed before part refusal → ⊥
+  made_not_refused before part t refusal makes fresh allowed (inl lacks) = lacks_none (base_among committed) part t refusal makes lacks
   made_not_refused before part t refusal makes fresh allowed (inr r) =
-      fresh_allowed before t refusal fresh allowed (subst (λ (u : TroveParts). IsTroveRefused before u refusal) (makes_once part r.trove t r.makes makes) r.refused)
+      fresh_allowed before t refusal fresh allowed (subst (λ (u : TroveParts). IsTroveRefused before u refusal) (makes_once one (base_among committed) part r.trove t r.makes makes) r.refused)
 
   -- `done` stands for the troves of the parts before
   none_behind : (done : List TroveParts) (front : List Part) (part : Part) (behind : List Part) (troves all : List TroveParts) (refusal : Refusal)
@@ -76,7 +55,7 @@ module _ (one : LeadsToOne) (committed : List TroveParts) where
   none_behind done (p ∷ front) part behind [] all refusal made_front made new allowed refused = absurd made_front
   none_behind done (p ∷ front) part behind (u ∷ troves) [] refusal made_front made new allowed refused = absurd made
   none_behind done (p ∷ front) part behind (u ∷ troves) (t ∷ all) refusal made_front made new allowed refused =
-      let same : u ≡ t = makes_once p u t made_front.0 made.0 in
+      let same : u ≡ t = makes_once one (base_among committed) p u t made_front.0 made.0 in
       none_behind (done ++ t ∷ []) front part behind troves all refusal made_front.1 made.1
       (subst (λ (l : List TroveParts). AreNew l all) (append_assoc committed done (t ∷ [])) new.1) (All-tail IsAllowed t all allowed)
       (subst (λ (l : List TroveParts). IsPartRefused committed (committed ++ l) part refusal)
@@ -91,10 +70,6 @@ module _ (one : LeadsToOne) (committed : List TroveParts) where
 
   -- ---- one refusal
 
-  lacks_once : (part : Part) (a b : Refusal) → LacksTrove committed part a → LacksTrove committed part b → a ≡ b
-  lacks_once (Whole trove) a b x y = absurd x
-  lacks_once (Relative rel) a b x y = x.refused ∙ sym y.refused
-
   free_or_there : (o : Option TroveParts) → o ≡ None → IsSome o → ⊥
   free_or_there None none some = absurd (cc some)
   free_or_there (Some u) none some = absurd (cc none)
@@ -108,11 +83,11 @@ module _ (one : LeadsToOne) (committed : List TroveParts) where
       is ∙ cc same ∙ sym also
 
   part_once : (before : List TroveParts) (part : Part) (a b : Refusal) → IsPartRefused committed before part a → IsPartRefused committed before part b → a ≡ b
-  part_once before part a b (inl x) (inl y) = lacks_once part a b x y
-  part_once before part a b (inl x) (inr y) = absurd (lacks_none part y.trove a y.makes x)
-  part_once before part a b (inr x) (inl y) = absurd (lacks_none part x.trove b x.makes y)
+  part_once before part a b (inl x) (inl y) = lacks_once (base_among committed) part a b x y
+  part_once before part a b (inl x) (inr y) = absurd (lacks_none (base_among committed) part y.trove a y.makes x)
+  part_once before part a b (inr x) (inl y) = absurd (lacks_none (base_among committed) part x.trove b x.makes y)
   part_once before part a b (inr x) (inr y) =
-      trove_once before y.trove a b (subst (λ (t : TroveParts). IsTroveRefused before t a) (makes_once part x.trove y.trove x.makes y.makes) x.refused) y.refused
+      trove_once before y.trove a b (subst (λ (t : TroveParts). IsTroveRefused before t a) (makes_once one (base_among committed) part x.trove y.trove x.makes y.makes) x.refused) y.refused
 
   -- ---- the first part that is refused
 

@@ -3,7 +3,8 @@ ghost use Rattle.std.specs.Prelude.{◌≡◌, ◌++◌, IfErr, IfOk, OnOk};
 ghost use Rattle.repo_load.specs.cny-base.declared.refusal.Refusal.TheVariants as refusal;
 ghost use Rattle.repo_load.specs.trove-parts.Id.{id_text_of};
 ghost use Rattle.change_set.specs.Contents.{IfRefused};
-ghost use Rattle.repository.specs.Parts.{AreMade, HasPart, IsAdded, IsFirstRefused, IsLedTo, IsPartRefused, IsTroveRefused, LacksBase, LacksTrove, MakesTrove};
+ghost use Rattle.change_set.specs.Makes.{IsLedTo, LacksBase, LacksTrove, MakesTrove};
+ghost use Rattle.repository.specs.Parts.{AreMade, base_among, HasPart, IsAdded, IsFirstRefused, IsPartRefused, IsTroveRefused};
 
 use crate::refs::is_there;
 use change_rel::{apply, missing_base};
@@ -24,8 +25,8 @@ fn exists(alloc: Global, id: &TroveId) -> Result<Refusal, OutOfMemory>
 
 // The trove to which a relative one leads from one that is committed.
 fn led_to(alloc: Global, committed: &Catalogue, rel: &RelTrove) -> Result<Trove, Fault>
-    ensures led { IfOk result (IsLedTo committed.now.troves rel.now) }
-    ensures missing { IfErr result (IfRefused (LacksBase committed.now.troves rel.now)) }
+    ensures led { IfOk result (IsLedTo (base_among committed.now.troves) rel.now) }
+    ensures missing { IfErr result (IfRefused (LacksBase (base_among committed.now.troves) rel.now)) }
 {
     let Some(base) = committed.find(&rel.parts().old) else {
         return Err(missing_base(alloc, &rel.parts().old));
@@ -35,8 +36,8 @@ fn led_to(alloc: Global, committed: &Catalogue, rel: &RelTrove) -> Result<Trove,
 
 // The trove that a part makes.
 fn trove_of(alloc: Global, committed: &Catalogue, part: &Part) -> Result<Trove, Fault>
-    ensures makes { IfOk result (MakesTrove committed.now.troves part.now) }
-    ensures refused { IfErr result (IfRefused (LacksTrove committed.now.troves part.now)) }
+    ensures makes { IfOk result (MakesTrove (base_among committed.now.troves) part.now) }
+    ensures refused { IfErr result (IfRefused (LacksTrove (base_among committed.now.troves) part.now)) }
 {
     match part {
         Part::Whole(trove) => Ok(trove.copy()?),

@@ -1,7 +1,7 @@
 mod Added
-mod Answered
+pub mod Answered
 mod Listed
-mod SearchLaws
+pub mod SearchLaws
 mod Stopping
 mod Members
 mod Choosing

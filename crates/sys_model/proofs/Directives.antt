@@ -86,6 +86,18 @@ bad_is (Err e) f is h = sym is ∙ same_fault e Bad h
 
 -- ---- answers
 
-pub weaker_ok : {X E : Type 0} (P Q : X → Type 0) → ((x : X) → P x → Q x) → (r : Result X E) → IfOk r P → IfOk r Q
+weaker_ok : {X E : Type 0} (P Q : X → Type 0) → ((x : X) → P x → Q x) → (r : Result X E) → IfOk r P → IfOk r Q
 weaker_ok P Q weaker (Ok x) h = weaker x h
 weaker_ok P Q weaker (Err e) h = h
+
+-- a line whose first word is read, with this text behind it
+module _ (line text word : List ℕ) (Is : List ℕ → ModelLine → Type 0) (says : (said : ModelLine) → has_key word line ≡ true → IsDirective line said → Is (text_behind word line) said)
+    (behind : (has_key word line ≡ true) × (text ≡ text_behind word line)) where
+  said_behind : (said : ModelLine) → IsDirective line said → Is text said
+  said_behind said is = subst (λ (t : List ℕ). Is t said) (sym behind.1) (says said behind.0 is)
+
+  pub directive_only : (r : Result ModelLine TextFault) → IfOk r (λ made. (said : ModelLine) → Is text said → made ≡ said) → IfOk r (λ made. (said : ModelLine) → IsDirective line said → made ≡ said)
+  directive_only r only = weaker_ok (λ (made : ModelLine). (said : ModelLine) → Is text said → made ≡ said) (λ (made : ModelLine). (said : ModelLine) → IsDirective line said → made ≡ said) (λ made one said is. one said (said_behind said is)) r only
+
+  pub directive_bad : (r : Result ModelLine TextFault) → (IsErrOf r Bad → (said : ModelLine) → Is text said → ⊥) → IsErrOf r Bad → (said : ModelLine) → IsDirective line said → ⊥
+  directive_bad r none bad said is = none bad said (said_behind said is)

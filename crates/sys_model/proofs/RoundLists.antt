@@ -199,19 +199,20 @@ module _ (troves installed : List TroveParts) (roots : List TroveId) (places : L
   to_found : (place : ℕ) → IsPlaceOfOne installed (Contains replaced) place → IsPlaceOfOne installed (HasTroveOf found) place
   to_found place one = record { name = one.name; named = some_place one.name (are.comes one.name one.named); place_of = one.place_of }
 
-  stays_found : (t : TroveParts) → Stays installed (Contains replaced) t → Stays installed (HasTroveOf found) t
-  stays_found t stays = record {
+  -- what stays beside the places of some names stays beside those of others that have the same places
+  stays_also : (P Q : List ℕ → Type 0) → ((place : ℕ) → IsPlaceOfOne installed P place → IsPlaceOfOne installed Q place) → ((place : ℕ) → IsPlaceOfOne installed Q place → IsPlaceOfOne installed P place) → (t : TroveParts)
+      → Stays installed P t → Stays installed Q t
+  stays_also P Q to back t stays = record {
     place = stays.place;
     there = stays.there;
-    left = left_also installed (IsPlaceOfOne installed (Contains replaced)) (IsPlaceOfOne installed (HasTroveOf found)) to_found to_replaced stays.place stays.left;
+    left = left_also installed (IsPlaceOfOne installed P) (IsPlaceOfOne installed Q) to back stays.place stays.left;
   }
 
+  stays_found : (t : TroveParts) → Stays installed (Contains replaced) t → Stays installed (HasTroveOf found) t
+  stays_found t stays = stays_also (Contains replaced) (HasTroveOf found) to_found to_replaced t stays
+
   stays_replaced : (t : TroveParts) → Stays installed (HasTroveOf found) t → Stays installed (Contains replaced) t
-  stays_replaced t stays = record {
-    place = stays.place;
-    there = stays.there;
-    left = left_also installed (IsPlaceOfOne installed (HasTroveOf found)) (IsPlaceOfOne installed (Contains replaced)) to_replaced to_found stays.place stays.left;
-  }
+  stays_replaced t stays = stays_also (HasTroveOf found) (Contains replaced) to_replaced to_found t stays
 
   -- ---- the installed list with what comes
 

@@ -9,7 +9,8 @@ use Rattle.change_set.specs.trove-parts.declared.id.TroveId.{TroveId}
 use Rattle.change_set.specs.trove-stream.declared.parts.TroveParts.{TroveParts}
 use Rattle.change_rel.specs.trove-stream.Leads.{Leads}
 use Rattle.change_set.specs.trove-stream.Installed.{by_name, IsRising, trove_of}
-use Rattle.update_job.specs.Made.{IsLedTo}
+use Rattle.change_set.specs.Makes.{IsLedTo}
+use Rattle.update_job.specs.Made.{base_in}
 use Rattle.change_rel.proofs.trove-stream.Names.{contained as found}
 
 -- what is above another has another name
@@ -19,7 +20,7 @@ other_name x t less same =
     let apart : slice_cmp nat_cmp x.id.name x.id.name ≡ Less = ap (slice_cmp nat_cmp x.id.name) same ∙ less in
     absurd (cc (own, apart))
 
-pub led_from : (installed : List TroveParts) (rel : RelParts) (base made : TroveParts) → IsRising installed → Contains installed base → Leads rel base made → IsLedTo installed rel made
+pub led_from : (installed : List TroveParts) (rel : RelParts) (base made : TroveParts) → IsRising installed → Contains installed base → Leads rel base made → IsLedTo (base_in installed) rel made
 led_from installed rel base made rises there leads = record {
   base = base;
   stands = ap (λ (id : TroveId). trove_of id.name installed) (sym leads.from) ∙ found installed rises base there;

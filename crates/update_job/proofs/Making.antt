@@ -7,22 +7,16 @@ use Rattle.change_set.specs.cny-base.declared.refusal.Fault.TheVariants as fault
 use Rattle.change_set.specs.trove-stream.declared.parts.TroveParts.{TroveParts}
 use Rattle.change_set.specs.declared.change.Part.{Part}
 use Rattle.change_set.specs.Contents.{IfRefused}
-use Rattle.update_job.specs.Made.{AreMade, IsFirstRefused, IsMade, IsPartRefused, MakesTrove, MakeTroves}
+use Rattle.update_job.specs.Made.{AreMade, base_in, IsFirstRefused, IsMade, IsPartRefused}
 use Rattle.change_rel.specs.trove-stream.Forbidden.{IsAllowed}
 use Rattle.change_rel.proofs.cny-base.Lists.{split_at}
-
-make_push : (installed : List TroveParts) (parts : List Part) (troves : List TroveParts) (part : Part) (trove : TroveParts) → MakeTroves installed parts troves → MakesTrove installed part trove
-    → MakeTroves installed (parts ++ part ∷ []) (troves ++ trove ∷ [])
-make_push installed [] [] part trove make one = (one, tt)
-make_push installed [] (t ∷ troves) part trove make one = absurd make
-make_push installed (p ∷ parts) [] part trove make one = absurd make
-make_push installed (p ∷ parts) (t ∷ troves) part trove make one = (make.0, make_push installed parts troves part trove make.1 one)
+use Rattle.change_set.proofs.Making.{make_push}
 
 pub made_more : (installed : List TroveParts) (parts : List Part) (i : ℕ) (part : Part) (troves : List TroveParts) (trove : TroveParts) → i < length parts → part ≡ get_or parts i part
     → AreMade installed (take i parts) troves → IsMade installed part trove → AreMade installed (take (i + 1) parts) (troves ++ trove ∷ [])
 made_more installed parts i part troves trove within is made more =
     subst (λ (l : List Part). AreMade installed l (troves ++ trove ∷ [])) (sym (take_more parts i part within ∙ ap (λ (p : Part). take i parts ++ p ∷ []) (sym is))) (record {
-      make = make_push installed (take i parts) troves part trove made.make more.0;
+      make = make_push (base_in installed) (take i parts) troves part trove made.make more.0;
       allowed = All-push IsAllowed troves trove made.allowed more.1;
     })
 

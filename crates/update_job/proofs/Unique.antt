@@ -1,46 +1,22 @@
 -- Parts make one row of troves, or are refused for one reason.
-use Rattle.std.proofs.Common.{◌≡◌, inl, inr, List, [], ◌∷◌, Some, refl, sym, ◌∙◌, ap, subst}
+use Rattle.std.proofs.Common.{◌≡◌, inl, inr, List, [], ◌∷◌, sym, ◌∙◌, subst}
 use Rattle.std.specs.List.{AllByRecursion}
 use Rattle.std.proofs.lemmas.List.Elements.{All-head, All-tail}
 use Rattle.change_set.specs.cny-base.declared.refusal.Refusal.{Refusal}
-use Rattle.change_set.specs.trove-stream.declared.rel.RelParts.{RelParts}
 use Rattle.change_set.specs.trove-stream.declared.parts.TroveParts.{TroveParts}
-use Rattle.change_rel.specs.trove-stream.Leads.{Leads}
 use Rattle.change_set.specs.declared.change.Part.{Part}
-use Rattle.change_set.specs.declared.change.Part.TheVariants.{Whole, Relative}
 use Rattle.update_job.specs.Allowed.{AreAllowed, IsReserved}
-use Rattle.update_job.specs.Made.{AreMade, IsFirstRefused, IsLedTo, IsMade, IsPartRefused, LacksTrove, MakesTrove, MakeTroves}
+use Rattle.update_job.specs.Made.{AreMade, base_in, IsFirstRefused, IsMade, IsPartRefused}
+use Rattle.change_set.specs.Makes.{MakeTroves}
+use Rattle.change_set.proofs.Making.{lacks_none, lacks_once, make_once, makes_once}
 use Rattle.update_job.proofs.Firsts.{none_fails, one_first}
 use Rattle.update_job.proofs.Reserved.{allowed_apart, reserved_once}
 use Rattle.change_rel.proofs.Unique.{LeadsToOne}
 use Rattle.change_rel.specs.trove-stream.Forbidden.{IsAllowed}
 
-some_one : (a b : TroveParts) → Some a ≡ Some b → a ≡ b
-some_one a b e = cc e
-
 module _ (one : LeadsToOne) (installed : List TroveParts) where
-  led_once : (rel : RelParts) (a b : TroveParts) → IsLedTo installed rel a → IsLedTo installed rel b → a ≡ b
-  led_once rel a b x y =
-      let base : x.base ≡ y.base = some_one x.base y.base (sym x.stands ∙ y.stands) in
-      one rel y.base a b (subst (λ (t : TroveParts). Leads rel t a) base x.leads) y.leads
-
-  makes_once : (part : Part) (a b : TroveParts) → MakesTrove installed part a → MakesTrove installed part b → a ≡ b
-  makes_once (Whole trove) a b x y = x ∙ sym y
-  makes_once (Relative rel) a b x y = led_once rel a b x y
-
-  make_once : (parts : List Part) (a b : List TroveParts) → MakeTroves installed parts a → MakeTroves installed parts b → a ≡ b
-  make_once [] [] [] x y = refl
-  make_once [] [] (u ∷ b) x y = absurd y
-  make_once [] (t ∷ a) b x y = absurd x
-  make_once (p ∷ parts) [] b x y = absurd x
-  make_once (p ∷ parts) (t ∷ a) [] x y = absurd y
-  make_once (p ∷ parts) (t ∷ a) (u ∷ b) x y =
-      let first = makes_once p t u x.0 y.0 in
-      let rest = make_once parts a b x.1 y.1 in
-      ap (λ (v : TroveParts). v ∷ a) first ∙ ap (λ (l : List TroveParts). u ∷ l) rest
-
   pub made_once : (parts : List Part) (a b : List TroveParts) → AreMade installed parts a → AreMade installed parts b → a ≡ b
-  made_once parts a b x y = make_once parts a b x.make y.make
+  made_once parts a b x y = make_once one (base_in installed) parts a b x.make y.make
 
   -- ---- one part
 
@@ -52,29 +28,21 @@ module _ (one : LeadsToOne) (installed : List TroveParts) where
   abbrev Fails : Part → Type 0
   Fails part = (refusal : Refusal) × IsPartRefused installed part refusal
 
-  lacks_none : (part : Part) (t : TroveParts) (refusal : Refusal) → MakesTrove installed part t → LacksTrove installed part refusal → ⊥
-  lacks_none (Whole trove) t refusal makes lacks = absurd lacks
-  lacks_none (Relative rel) t refusal makes lacks = lacks.none t makes
-
   part_apart : (part : Part) → Passes part → Fails part → ⊥
-  part_apart part (t, made) (refusal, inl lacks) = lacks_none part t refusal made.0 lacks
+  part_apart part (t, made) (refusal, inl lacks) = lacks_none (base_in installed) part t refusal made.0 lacks
   part_apart part (t, made) (refusal, inr r) =
-      allowed_apart t refusal made.1 (subst (λ (u : TroveParts). IsReserved u refusal) (makes_once part r.trove t r.makes made.0) r.reserved)
-
-  lacks_once : (part : Part) (a b : Refusal) → LacksTrove installed part a → LacksTrove installed part b → a ≡ b
-  lacks_once (Whole trove) a b x y = absurd x
-  lacks_once (Relative rel) a b x y = x.refused ∙ sym y.refused
+      allowed_apart t refusal made.1 (subst (λ (u : TroveParts). IsReserved u refusal) (makes_once one (base_in installed) part r.trove t r.makes made.0) r.reserved)
 
   part_once : (part : Part) (a b : Refusal) → IsPartRefused installed part a → IsPartRefused installed part b → a ≡ b
-  part_once part a b (inl x) (inl y) = lacks_once part a b x y
-  part_once part a b (inl x) (inr y) = absurd (lacks_none part y.trove a y.makes x)
-  part_once part a b (inr x) (inl y) = absurd (lacks_none part x.trove b x.makes y)
+  part_once part a b (inl x) (inl y) = lacks_once (base_in installed) part a b x y
+  part_once part a b (inl x) (inr y) = absurd (lacks_none (base_in installed) part y.trove a y.makes x)
+  part_once part a b (inr x) (inl y) = absurd (lacks_none (base_in installed) part x.trove b x.makes y)
   part_once part a b (inr x) (inr y) =
-      reserved_once y.trove a b (subst (λ (t : TroveParts). IsReserved t a) (makes_once part x.trove y.trove x.makes y.makes) x.reserved) y.reserved
+      reserved_once y.trove a b (subst (λ (t : TroveParts). IsReserved t a) (makes_once one (base_in installed) part x.trove y.trove x.makes y.makes) x.reserved) y.reserved
 
   -- ---- the first of several
 
-  each_passes : (parts : List Part) (troves : List TroveParts) → MakeTroves installed parts troves → AreAllowed troves → AllByRecursion Passes parts
+  each_passes : (parts : List Part) (troves : List TroveParts) → MakeTroves (base_in installed) parts troves → AreAllowed troves → AllByRecursion Passes parts
   each_passes [] [] make allowed = tt
   each_passes [] (t ∷ troves) make allowed = absurd make
   each_passes (p ∷ parts) [] make allowed = absurd make

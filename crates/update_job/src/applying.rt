@@ -1,7 +1,8 @@
 //! The troves that the parts of a change set make of the installed ones.
 ghost use Rattle.std.specs.Prelude.{IfErr, IfOk};
 ghost use Rattle.change_set.specs.Contents.{IfRefused};
-ghost use Rattle.update_job.specs.Made.{AreMade, IsFirstRefused, IsLedTo, IsMade, IsPartRefused, LacksBase, LacksTrove, MakesTrove};
+ghost use Rattle.change_set.specs.Makes.{IsLedTo, LacksBase, LacksTrove, MakesTrove};
+ghost use Rattle.update_job.specs.Made.{AreMade, base_in, IsFirstRefused, IsMade, IsPartRefused};
 
 use change_rel::{apply, missing_base};
 use change_set::Part;
@@ -11,8 +12,8 @@ use std::alloc::Global;
 
 // The trove to which a relative one leads from the installed trove of its name. Whether that has the id, `apply` tests.
 fn led_to(alloc: Global, installed: &Installed, rel: &RelTrove) -> Result<Trove, Fault>
-    ensures led { IfOk result (IsLedTo installed.now rel.now) }
-    ensures missing { IfErr result (IfRefused (LacksBase installed.now rel.now)) }
+    ensures led { IfOk result (IsLedTo (base_in installed.now) rel.now) }
+    ensures missing { IfErr result (IfRefused (LacksBase (base_in installed.now) rel.now)) }
 {
     let Some(base) = installed.get(&rel.parts().old.name) else {
         return Err(missing_base(alloc, &rel.parts().old));
@@ -22,8 +23,8 @@ fn led_to(alloc: Global, installed: &Installed, rel: &RelTrove) -> Result<Trove,
 
 // The trove that a part makes.
 fn trove_of(alloc: Global, installed: &Installed, part: &Part) -> Result<Trove, Fault>
-    ensures makes { IfOk result (MakesTrove installed.now part.now) }
-    ensures refused { IfErr result (IfRefused (LacksTrove installed.now part.now)) }
+    ensures makes { IfOk result (MakesTrove (base_in installed.now) part.now) }
+    ensures refused { IfErr result (IfRefused (LacksTrove (base_in installed.now) part.now)) }
 {
     match part {
         Part::Whole(trove) => Ok(trove.copy()?),

@@ -7,7 +7,8 @@ ghost use Rattle.change_rel.specs.trove-stream.Leads.{Leads};
 ghost use Rattle.change_set.specs.declared.change.Part.{Part};
 ghost use Rattle.change_set.specs.trove-stream.Installed.{IsRising};
 ghost use Rattle.update_job.specs.Allowed.{AreAllowed, IsFirstReserved};
-ghost use Rattle.update_job.specs.Made.{AreMade, IsFirstRefused, IsLedTo};
+ghost use Rattle.change_set.specs.Makes.{IsLedTo};
+ghost use Rattle.update_job.specs.Made.{AreMade, base_in, IsFirstRefused};
 
 use change_rel::trove_stream::one_result;
 
@@ -32,5 +33,5 @@ pub fn one_made()
 /// from none of the installed ones.
 pub fn led_from_installed()
     ensures { (installed : List TroveParts) (rel : RelParts) (base made : TroveParts) → IsRising installed → Contains installed base → Leads rel base made
-        → IsLedTo installed rel made }
+        → IsLedTo (base_in installed) rel made }
 {}

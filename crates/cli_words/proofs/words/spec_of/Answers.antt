@@ -1,10 +1,8 @@
-use Rattle.std.proofs.Common.{Err, subst}
-use Rattle.cny_version.specs.cny-base.declared.text.TextFault.{TextFault}
-use Rattle.trove_spec.specs.Spec.{IsReadAs}
+use Rattle.std.proofs.Common.{sym, subst}
+use Rattle.trove_spec.specs.Spec.{IsSpecText}
+use Rattle.cli_words.specs.Words.{ReadsOnly}
+use Rattle.cli_words.proofs.Reading.{spec_reads}
 use Rattle.cli_words.proofs.words.spec_of.Goals as goal
 
-pub returns-in-Ok : goal.returns-in-Ok
-returns-in-Ok c = record { is = c.in-Ok.ensures.found; only = c.in-Ok.ensures.only }
-
-pub returns-in-Err-Bad : goal.returns-in-Err-Bad
-returns-in-Err-Bad c = record { none = λ spec is. subst (λ (f : TextFault). IsReadAs (Err f) spec) c.in-Err-Bad.field-0-is (c.in-Err-Bad.ensures.only spec is) }
+pub returns : goal.returns
+returns c = subst (ReadsOnly (IsSpecText c.args.word.now)) (sym c.or_usage.ensures) (spec_reads c.args.word.now c.read.result c.read.ensures.found c.read.ensures.only)

@@ -1,10 +1,9 @@
-use Rattle.std.proofs.Common.{◌<◌, length, arith}
 use Rattle.std.proofs.lemmas.Result.{err_from_is_err_and, IfOk-weaker, IfErr-weaker}
 use Rattle.cny_manifest.specs.Body.{Body}
 use Rattle.cny_manifest.specs.Grammar.{InBody, InContent}
 use Rattle.cny_manifest.specs.Reading.{Runs, StopsBy}
 use Rattle.cny_manifest.proofs.Steps.{runs_then, stops_then}
-use Rattle.cny_manifest.proofs.WordLines.{file_runs, file_stops, line_shorter}
+use Rattle.cny_manifest.proofs.WordLines.{file_runs, file_stops, behind_shorter}
 use Rattle.cny_manifest.proofs.body.take_file.Goals as goal
 
 pub returns-in_err-file-clause-err : goal.returns-in_err-file-clause-err
@@ -23,10 +22,7 @@ returns-clause-ok c =
     c.take_content.ensures.ok
 
 pub returns-clause-shorter : goal.returns-clause-shorter
-returns-clause-shorter c =
-    let shorter = line_shorter c.args.rest.now c.args.line.now c.args.behind.now c.requires.line_is in
-    IfOk-weaker c.take_content.result (λ after. length after.now < length c.args.behind.now) (λ after. length after.now < length c.args.rest.now)
-    (λ after lt. omega (arith, lt, shorter)) c.take_content.ensures.shorter
+returns-clause-shorter c = behind_shorter c.args.rest.now c.args.line.now c.args.behind.now c.requires.line_is c.take_content.result c.take_content.ensures.shorter
 
 pub returns-clause-err : goal.returns-clause-err
 returns-clause-err c =

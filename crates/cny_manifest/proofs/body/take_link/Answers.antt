@@ -1,10 +1,9 @@
-use Rattle.std.proofs.Common.{◌<◌, length, arith}
 use Rattle.std.proofs.lemmas.Result.{IfOk-weaker, IfErr-weaker}
 use Rattle.cny_manifest.specs.Body.{Body}
 use Rattle.cny_manifest.specs.Grammar.{InBody, InTarget}
 use Rattle.cny_manifest.specs.Reading.{Runs, StopsBy}
 use Rattle.cny_manifest.proofs.Steps.{runs_then, stops_then}
-use Rattle.cny_manifest.proofs.WordLines.{line_shorter}
+use Rattle.cny_manifest.proofs.WordLines.{behind_shorter}
 use Rattle.cny_manifest.proofs.body.take_link.Goals as goal
 
 pub returns-clause-ok : goal.returns-clause-ok
@@ -17,10 +16,7 @@ returns-clause-ok c =
     c.take_target.ensures.ok
 
 pub returns-clause-shorter : goal.returns-clause-shorter
-returns-clause-shorter c =
-    let shorter = line_shorter c.args.rest.now c.args.line.now c.args.behind.now c.requires.line_is in
-    IfOk-weaker c.take_target.result (λ after. length after.now < length c.args.behind.now) (λ after. length after.now < length c.args.rest.now)
-    (λ after lt. omega (arith, lt, shorter)) c.take_target.ensures.shorter
+returns-clause-shorter c = behind_shorter c.args.rest.now c.args.line.now c.args.behind.now c.requires.line_is c.take_target.result c.take_target.ensures.shorter
 
 pub returns-clause-err : goal.returns-clause-err
 returns-clause-err c =

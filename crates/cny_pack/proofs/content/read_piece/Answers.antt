@@ -1,9 +1,6 @@
 use Rattle.cny_pack.proofs.Giving.{read_front}
-use Rattle.std.proofs.Common.{sym, subst}
 use Rattle.tree_disk.proofs.StepLaws.{tests_value}
-use Rattle.tree_disk.specs.cny-base.Count.{Rose}
-use Rattle.cny_pack.specs.Halts.{IsHalt, Never}
-use Rattle.cny_pack.proofs.Looking.{step_halts}
+use Rattle.cny_pack.proofs.Looking.{halted}
 use Rattle.cny_pack.proofs.content.read_piece.Goals as goal
 
 pub returns-in-Ok-clause-told : goal.returns-in-Ok-clause-told
@@ -19,6 +16,4 @@ pub returns-in-Ok-clause-counted : goal.returns-in-Ok-clause-counted
 returns-in-Ok-clause-counted g c tells = tests_value c.in-Ok.ensures.tests tells
 
 pub returns-in-Err-clause-stops : goal.returns-in-Err-clause-stops
-returns-in-Err-clause-stops g c =
-    let faults = g.D.TreeDisk.disk.faults in
-    subst (IsHalt Never (Rose (faults c.args.disk.now) (faults c.read_at.new.disk)) ⊥) (sym c.halt_of.ensures) (step_halts c.in-Err.stop c.in-Err.ensures.stops c.in-Err.ensures.tests)
+returns-in-Err-clause-stops g c = halted c.in-Err.stop _ c.by_step.ensures c.in-Err.ensures.stops c.in-Err.ensures.tests

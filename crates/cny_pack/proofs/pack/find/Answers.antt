@@ -13,4 +13,4 @@ returns-in-Err-clause-same g c tells = (c.in-Err.ensures.looks.same tells).same.
 pub returns-in-Err-clause-stops : goal.returns-in-Err-clause-stops
 returns-in-Err-clause-stops g c =
     let faults = g.D.TreeDisk.disk.faults in
-    subst (IsLookStop (Rose (faults c.args.disk.now) (faults c.find_all.new.disk))) (sym c.stop_of.ensures) (step_stops c.in-Err.stop c.in-Err.ensures.stops c.in-Err.ensures.looks)
+    subst (IsLookStop (Rose (faults c.args.disk.now) (faults c.find_all.new.disk))) (sym c.by_step.ensures) (step_stops c.in-Err.stop c.in-Err.ensures.stops c.in-Err.ensures.looks)
