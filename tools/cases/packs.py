@@ -1,8 +1,8 @@
 """Cases of manifests of trees: rows of packs.txt, of which each says what is other than usual of the words, the patterns of configuration files, whether
 what can't be in a manifest is left out, the call of the sink or of the disk that fails, and the nodes."""
-from tools.cases.rows import LABEL, Rows
+from tools.cases.rows import LABEL, Rows, content
 
-LONG_NAME, LARGE = b"f" * 250, b"x" * 140_000
+LONG_NAME, LARGE, TOO_LARGE = b"f" * 250, b"x" * 140_000, content("16777217*x")
 LONG_FLAVOR = b", ".join(b"f%040d" % at for at in range(60))
 LONG_DEP = b"soname: x(" + b" ".join(b"%040d" % at for at in range(64)) + b")"
 TABLE = Rows("packs", globals())

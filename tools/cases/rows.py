@@ -161,7 +161,8 @@ class Rows:
                 break
             if sign.startswith("{"):
                 tag, is_of = sign[1:-1], self.spelled(signs) if sign.endswith(":") else None
-                made += self.value(tag) if is_of is None else str_field(is_of) if tag == "str" else item(int(tag, 16), is_of)
+                part = self.value(tag) if is_of is None else str_field(is_of) if tag == "str" else item(int(tag, 16), is_of)
+                made = made + part if made else part
             else:
                 made += unescaped(sign)
         return made
@@ -183,7 +184,7 @@ class Rows:
         if repeats := re.fullmatch(r"(\d+)\*(.*)", text):
             return int(repeats[1]) * unescaped(repeats[2])
         name, _, size = text.partition(":")
-        return self.names[name][: int(size) if size else None]
+        return self.names[name][: int(size)] if size else self.names[name]
 
     def word(self, text):
         """Bytes, `-` for none."""

@@ -124,17 +124,15 @@ impl Answer {
 
     /// Appends a text that takes memory.
     pub fn made(&mut self, text: Result<Text, OutOfMemory>) {
-        match text {
-            Ok(text) => self.text(text.get()),
-            Err(OutOfMemory) => self.memory(),
+        if let Some(text) = self.kept(text) {
+            self.text(text.get());
         }
     }
 
     /// Appends a text that was formatted.
     pub fn formatted(&mut self, text: Result<String, AllocError>) {
-        match text {
-            Ok(text) => self.text(text.as_str()),
-            Err(_) => self.memory(),
+        if let Some(text) = self.kept(text) {
+            self.text(text.as_str());
         }
     }
 
@@ -152,10 +150,8 @@ impl Answer {
 
     /// Appends bytes in hexadecimal digits.
     pub fn hex(&mut self, bytes: &[u8]) {
-        match hex::encode(self.alloc, bytes) {
-            Ok(digits) => self.text(digits.as_str()),
-            Err(_) => self.memory(),
-        }
+        let digits = hex::encode(self.alloc, bytes);
+        self.formatted(digits);
     }
 
     /// Appends bytes in hexadecimal digits as a field.
@@ -283,32 +279,23 @@ impl Answer {
         self.made(text);
     }
 
-    // Appends a word and a path.
+    // Appends a word and a path as a field.
     fn damaged(&mut self, word: &str, path: &str) {
-        self.text(word);
+        self.field(word);
         self.text(path);
-    }
-
-    // Appends why a call on disks stopped.
-    fn stop(&mut self, stop: &cny_base::Stop) {
-        match stop {
-            cny_base::Stop::Refused(refusal) => {
-                let text = refusal_text(self.alloc, refusal);
-                self.made(text);
-            }
-            cny_base::Stop::Memory => self.memory(),
-            cny_base::Stop::Failed => self.text("failed"),
-            cny_base::Stop::Damaged { path } => self.damaged("damaged ", path.text()),
-            cny_base::Stop::FarFailed => self.text("far failed"),
-            cny_base::Stop::FarDamaged { path } => self.damaged("far damaged ", path.text()),
-        }
     }
 
     /// Appends why a call on disks stopped as a field: the text of a refusal, `failed`, `damaged PATH`, the last two behind `far ` for
     /// the other disk, or that no memory was left.
     pub fn stopped(&mut self, stop: &cny_base::Stop) {
-        self.tab();
-        self.stop(stop);
+        match stop {
+            cny_base::Stop::Refused(refusal) => self.refusal(refusal),
+            cny_base::Stop::Memory => self.memory(),
+            cny_base::Stop::Failed => self.field("failed"),
+            cny_base::Stop::Damaged { path } => self.damaged("damaged ", path.text()),
+            cny_base::Stop::FarFailed => self.field("far failed"),
+            cny_base::Stop::FarDamaged { path } => self.damaged("far damaged ", path.text()),
+        }
     }
 
     // ---- answers apart

@@ -32,10 +32,7 @@ impl Drop for Line<'_> {
 impl<'a> Line<'a> {
     /// The line of this text, with these arguments.
     pub fn new(alloc: Global, text: &'a str, arguments: &'a [Argument]) -> Self {
-        let name = match text.split_once('\t') {
-            Some((name, _)) => name,
-            None => text,
-        };
+        let (name, _) = text.split_once('\t').unwrap_or((text, ""));
         Line {
             alloc,
             name,
@@ -148,18 +145,12 @@ impl<'a> Line<'a> {
 
     /// The mode at a place, in octal digits; any where it is unreadable.
     pub fn mode(&mut self, place: usize) -> Mode {
-        match self.value::<Mode>(place) {
-            Some(mode) => mode,
-            None => Mode::owner_only(),
-        }
+        self.value::<Mode>(place).unwrap_or(Mode::owner_only())
     }
 
     /// The name of a content at a place, in hexadecimal digits; any where it is unreadable.
     pub fn digest(&mut self, place: usize) -> [u8; 20] {
-        match self.value::<[u8; 20]>(place) {
-            Some(name) => name,
-            None => [0; 20],
-        }
+        self.value::<[u8; 20]>(place).unwrap_or([0; 20])
     }
 
     // ---- arguments that are values of their own
@@ -207,18 +198,9 @@ impl<'a> Line<'a> {
 
     // Appends what was read of a part; where that is none, the line is no call.
     fn push_read<T: Drop>(&mut self, parts: &mut Vec<T>, read: Option<T>) {
-        match read {
-            Some(part) => {
-                self.kept(parts.push(part));
-            }
-            None => self.unreadable(),
+        if let Some(part) = self.some(read) {
+            self.kept(parts.push(part));
         }
-    }
-
-    // Appends the value of a part of an argument.
-    fn push_part<T: Value>(&mut self, parts: &mut Vec<T>, raw: &str) {
-        let part = self.part(raw);
-        self.push_read(parts, part);
     }
 
     /// What a reader makes of each part of a list, with a semicolon between two; nothing of an empty one. Where it makes none of a
@@ -260,23 +242,12 @@ impl<'a> Line<'a> {
     /// The values of the list at a place, with a semicolon between two; none of an empty argument.
     pub fn list<T: Value>(&mut self, place: usize) -> Vec<T> {
         let raw = self.raw(place);
-        let mut parts = Vec::new(self.alloc);
-        if !raw.is_empty() {
-            for part in raw.split(';') {
-                self.push_part(&mut parts, part);
-            }
-        }
-        parts
+        self.each(raw, |line: &mut Line, raw: &str| line.part::<T>(raw))
     }
 
     /// The values of the arguments from a place on.
     pub fn rest<T: Value>(&mut self, first: usize) -> Vec<T> {
-        let mut parts = Vec::new(self.alloc);
-        for place in first..self.arguments.len() {
-            let raw = self.raw(place);
-            self.push_part(&mut parts, raw);
-        }
-        parts
+        self.each_from(first, |line: &mut Line, raw: &str| line.part::<T>(raw))
     }
 
     /// The installed list of the troves at a place.

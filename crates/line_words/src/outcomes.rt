@@ -3,14 +3,9 @@ use crate::answer::Answer;
 use std::alloc::Global;
 
 /// Texts of which each that differs from the one before is told.
+#[derive(Drop)]
 pub struct Outcomes {
     last: String,
-}
-
-impl Drop for Outcomes {
-    fn drop(self) {
-        let Outcomes { last: _last } = self;
-    }
 }
 
 impl Outcomes {

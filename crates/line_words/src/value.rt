@@ -20,10 +20,7 @@ pub fn text_in(bytes: &[u8]) -> Result<&str, Stop> {
 
 /// The number of decimal digits.
 pub fn number_in(bytes: &[u8]) -> Result<u64, Stop> {
-    match text_in(bytes)?.parse::<u64>() {
-        Ok(number) => Ok(number),
-        Err(_) => Err(Stop::Unreadable),
-    }
+    text_in(bytes)?.parse::<u64>().ok().ok_or(Stop::Unreadable)
 }
 
 impl Value for Bytes {
@@ -71,10 +68,8 @@ impl Value for u64 {
 
 impl Value for u32 {
     fn read(_: Global, bytes: &[u8]) -> Result<Self, Stop> {
-        match u32::try_from(number_in(bytes)?) {
-            Ok(number) => Ok(number),
-            Err(_) => Err(Stop::Unreadable),
-        }
+        let number = number_in(bytes)?;
+        u32::try_from(number).ok().ok_or(Stop::Unreadable)
     }
 }
 

@@ -13,20 +13,12 @@ fn stop_of(fault: TreeFault) -> Stop {
     }
 }
 
-// Appends a node, where there is one.
-fn push_placed(line: &mut Line, nodes: &mut Vec<(Path, Node)>, path: Path, node: Option<Node>) {
-    match node {
-        Some(node) => {
-            line.kept(nodes.push((path, node)));
-        }
-        None => line.unreadable(),
-    }
-}
-
 // Appends a node of a list.
 fn push_node(line: &mut Line, nodes: &mut Vec<(Path, Node)>, raw: &str) {
     if let Some((path, node)) = line.placed_of(raw) {
-        push_placed(line, nodes, path, node);
+        if let Some(node) = line.some(node) {
+            line.kept(nodes.push((path, node)));
+        }
     }
 }
 

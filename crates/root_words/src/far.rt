@@ -29,13 +29,6 @@ impl Drop for Far {
     }
 }
 
-fn damaged_path(alloc: Global) -> Option<Path> {
-    match Path::read(alloc, "/c/damaged") {
-        Ok(path) => Some(path),
-        Err(_) => None,
-    }
-}
-
 impl Contents for Far {
     ghost use Rattle.root_words.specs.Far.{far_contents, far_source};
 
@@ -48,9 +41,9 @@ impl Contents for Far {
             return Err(FarStop::Failed);
         }
         if self.damaged {
-            return match damaged_path(alloc) {
-                Some(path) => Err(FarStop::Damaged { path }),
-                None => Err(FarStop::Memory),
+            return match Path::read(alloc, "/c/damaged") {
+                Ok(path) => Err(FarStop::Damaged { path }),
+                Err(_) => Err(FarStop::Memory),
             };
         }
         match self.contents.get(name) {
