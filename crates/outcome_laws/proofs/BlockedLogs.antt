@@ -21,11 +21,11 @@ use Rattle.conary_cli.specs.cli-call.cny-laws.WholeCall.{IsBlocked, IsNoCall}
 use Rattle.cny_batch.specs.declared.line.Line.{Line}
 use Rattle.conary_cli.specs.cli-words.declared.call_words.Call.{Call}
 use Rattle.conary_cli.specs.cli-words.declared.call_words.Call.TheVariants as call
-use Rattle.conary_cli.specs.Program.{line_state, told_source, IsProgramCall, IsSomething}
+use Rattle.conary_cli.specs.Program.{IsProgramCall, IsSomething}
 use Rattle.tree_memory.specs.declared.memory.MemoryTree.{MemoryTree}
 use Rattle.tree_memory.specs.Memory.{memory_disk, state}
 use Rattle.outcome_laws.specs.Cuts.{CannotPut}
-use Rattle.outcome_laws.specs.Play.{told_sink, WasMade}
+use Rattle.outcome_laws.specs.Play.{at_end, at_entry, told_sink, WasMade}
 use Rattle.outcome_laws.specs.Played.{IsLeftBlocked}
 use Rattle.outcome_laws.proofs.OnDisks.{never_zero}
 
@@ -39,37 +39,25 @@ one_reading x puts others h g =
 
 module _ (l : Line) (status : ℕ) (root root' repo repo' : MemoryTree) (left out line : List ℕ) (puts : List Put) (synced : IsSynced memory_disk root)
     (set : is_committed private_directory (state root).reads ≡ true) (holds : HoldsLog private_directory puts (state root).reads) (cannot : AllCanBePut puts (state root).reads → ⊥) where
-  abbrev before : CallState MemoryTree MemoryTree
-  before = line_state (told_source l.input) root repo (told_sink [])
-
-  abbrev now : CallState MemoryTree MemoryTree
-  now = line_state (told_source left) root' repo' (told_sink out)
-
-  abbrev err : SinkState
-  err = told_sink []
-
-  abbrev err' : SinkState
-  err' = told_sink line
-
-  silent : now.out ≡ before.out → out ≡ []
+  silent : (at_end left out root' repo').out ≡ (at_entry l root repo).out → out ≡ []
   silent same = let written : ◌≡◌ {A = Option (List ℕ)} (Some out) (Some []) = ap (λ (o : SinkState). o.written) same in cc written
 
-  nothing : (e : Failure) → IsNoCall e before now err err' status → IsLeftBlocked status out root root' repo repo'
+  nothing : (e : Failure) → IsNoCall e (at_entry l root repo) (at_end left out root' repo') (told_sink []) (told_sink line) status → IsLeftBlocked status out root root' repo repo'
   nothing e is = record {
     reads = ap (λ (m : CallState MemoryTree MemoryTree). (state m.root).reads) is.same;
     synced = λ p. ap (λ (m : CallState MemoryTree MemoryTree). (state m.root).unsynced p) is.same ∙ synced p;
     same = ap (λ (m : CallState MemoryTree MemoryTree). m.repo) is.same;
-    some = λ zero_is. ⊎_elim (λ r. never_zero e err err' status r zero_is) (λ r. never_zero failure.Memory err err' status r zero_is) is.reports;
+    some = λ zero_is. ⊎_elim (λ r. never_zero e (told_sink []) (told_sink line) status r zero_is) (λ r. never_zero failure.Memory (told_sink []) (told_sink line) status r zero_is) is.reports;
     silent = silent (ap (λ (m : CallState MemoryTree MemoryTree). m.out) is.same);
     unopened = inl (ap (λ (m : CallState MemoryTree MemoryTree). m.root) is.same, ap (λ (m : CallState MemoryTree MemoryTree). m.repo) is.same);
   }
 
-  blocked : (end : End) → Reports end err err' status → IsBlocked memory_disk memory_disk before now end → IsLeftBlocked status out root root' repo repo'
+  blocked : (end : End) → Reports end (told_sink []) (told_sink line) status → IsBlocked memory_disk memory_disk (at_entry l root repo) (at_end left out root' repo') end → IsLeftBlocked status out root root' repo repo'
   blocked end reports is = record {
     reads = same_tree (state root').reads (state root).reads (λ q. is.untouched.reads q (λ among. absurd cc));
     synced = λ p. ⊎_elim (λ changed. ⊎_elim (λ old. absurd (cc (sym old ∙ synced p))) (λ among. absurd cc) (is.untouched.unsynced p changed)) (λ clean. clean) (cases_Bool ((state root').unsynced p));
     same = is.stops.stops.same;
-    some = λ zero_is. never_zero is.stops.failure err err' status (subst (λ (x : End). Reports x err err' status) is.stops.is reports) zero_is;
+    some = λ zero_is. never_zero is.stops.failure (told_sink []) (told_sink line) status (subst (λ (x : End). Reports x (told_sink []) (told_sink line) status) is.stops.is reports) zero_is;
     silent = silent is.stops.silent;
     unopened = inr (is.stops.failure, inl is.stops.stops);
   }
@@ -84,7 +72,7 @@ module _ (l : Line) (status : ℕ) (root root' repo repo' : MemoryTree) (left ou
       let is : IsRootOpen memory_disk root mid opened.db = opens.opens_root.opened refl in
       never_reached is.reached.recovered is.reached.recovers
 
-  program : (expected : Result Call Failure) → IsProgramCall memory_disk memory_disk expected before now err err' status → IsLeftBlocked status out root root' repo repo'
+  program : (expected : Result Call Failure) → IsProgramCall memory_disk memory_disk expected (at_entry l root repo) (at_end left out root' repo') (told_sink []) (told_sink line) status → IsLeftBlocked status out root root' repo repo'
   program (Ok (call.Single c)) is = blocked is.call.end is.call.reports (is.call.log.blocked refl puts set holds cannot)
   program (Ok call.Batch) (inl is) = blocked is.end is.reports (is.log.blocked refl puts set holds cannot)
   program (Ok call.Batch) (inr run) = absurd (never_opened run.root run.repo run.opened run.opens)
@@ -92,7 +80,7 @@ module _ (l : Line) (status : ℕ) (root root' repo repo' : MemoryTree) (left ou
   program (Ok (call.Demo packages)) (inr run) = absurd (never_opened run.root run.repo run.opened run.opens)
   program (Err e) is = nothing e is
 
-  pub does_nothing : IsSomething memory_disk memory_disk l.words before now err err' status → IsLeftBlocked status out root root' repo repo'
+  pub does_nothing : IsSomething memory_disk memory_disk l.words (at_entry l root repo) (at_end left out root' repo') (told_sink []) (told_sink line) status → IsLeftBlocked status out root root' repo repo'
   does_nothing (inl some) = program some.0 some.2
   does_nothing (inr none) = nothing failure.Memory none
 

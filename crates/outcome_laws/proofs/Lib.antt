@@ -37,6 +37,7 @@ pub mod BlockedLogs
 pub mod NearLogs
 pub mod LogStates
 pub mod ToldFolds
+pub mod RolledBack
 pub mod PlayedStates
 pub mod FixedCuts
 pub mod CalledLine

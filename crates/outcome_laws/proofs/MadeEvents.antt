@@ -44,9 +44,6 @@ pub record ComesTo (events rest : List Event) (statuses statuses' : List ℕ) (r
   pub gained : statuses' ≡ statuses ++ statuses_of ends
   pub more : (r : Result (Unit {0}) OutOfMemory) (later : List EventEnd) (new far : MemoryTree) → MakesBy r rest later root' new repo' far → MakesBy r events (ends ++ later) root new repo far
 
-pub none_yet : (events : List Event) (statuses : List ℕ) (root repo : MemoryTree) → ComesTo events events statuses statuses root root repo repo
-none_yet events statuses root repo = record { ends = []; gained = sym (append-nil statuses); more = λ r later new far h. h }
-
 pub one_more : (events : List Event) (e : Event) (rest : List Event) (statuses mid statuses' : List ℕ) (root here root' repo far repo' : MemoryTree) → ComesTo events (e ∷ rest) statuses mid root here repo far
     → IsMade e mid statuses' here root' far repo' → ComesTo events rest statuses statuses' root root' repo repo'
 one_more events e rest statuses mid statuses' root here root' repo far repo' so made = record {

@@ -1,6 +1,6 @@
 -- A state with what was read of a root and a repository that were opened: the root's tree without the private directory, and jobs without
 -- paths that have the numbers of the database.
-use Rattle.std.proofs.Common.{◌≡◌, ◌≢◌, ℕ, zero, suc, ◌+◌, ◌-◌, ◌<◌, ◌≤◌, Bool, true, false, cond, List, [], ◌∷◌, length, All, None, refl, sym, ap, ◌∙◌, subst, inl, inr, ⊎_elim, arith}
+use Rattle.std.proofs.Common.{◌≡◌, ◌≢◌, ℕ, zero, suc, ◌+◌, ◌-◌, ◌<◌, ◌≤◌, Bool, true, false, cond, List, [], ◌∷◌, length, All, Option, Some, None, refl, sym, ap, ◌∙◌, subst, inl, inr, ⊎_elim, arith}
 use Rattle.std.specs.Prelude.{is_some}
 use Rattle.std.specs.FinMap.{get}
 use Rattle.std.proofs.lemmas.Bool.{cases_Bool}
@@ -21,6 +21,10 @@ use Rattle.conary_cli.proofs.cli-call.local-db.Other.{no_troves}
 use Rattle.conary_cli.proofs.cli-call.local-db.Places.{below_reserved}
 use Rattle.conary_cli.proofs.cli-call.local-db.Putting.{parent_outer, reserved_at_or_below}
 use Rattle.conary_cli.proofs.cli-call.local-db.Together.{nothing_fits}
+use Rattle.repo_load.specs.Contents.{FindsContent}
+use Rattle.repo_load.specs.trove-stream.declared.parts.TroveParts.{TroveParts}
+use Rattle.repository.specs.Outcome.{committed_contents}
+use Rattle.repository.proofs.Held.{kept_at, none_named}
 
 -- ---- the tree without the private directory
 
@@ -152,3 +156,10 @@ system_of t well db rules =
       outer = λ q out. sym (out_private t q out);
       database = same_db db (oldest numbers.stack) (newest numbers.stack) numbers.is_low numbers.is_high;
     }
+
+-- ---- contents
+
+-- a search finds of them what stands whole, or none where no trove names them
+pub whole_contents : (troves : List TroveParts) (x : Tree) (name : List ℕ) (found : Option (List ℕ)) → FindsContent troves name x found → found ≡ committed_contents troves x name
+whole_contents troves x name (Some bytes) finds = sym (kept_at troves x name bytes finds)
+whole_contents troves x name None finds = sym (none_named troves x name finds)

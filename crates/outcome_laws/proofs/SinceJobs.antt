@@ -25,7 +25,21 @@ use Rattle.conary_cli.specs.cli-call.system-core.Several.{jobs_below, jobs_to}
 use Rattle.conary_cli.proofs.cli-call.system-core.Counting.{numbers_apart, split_at}
 use Rattle.conary_cli.proofs.cli-call.system-core.OneJob.{left_over, picked}
 use Rattle.conary_cli.proofs.cli-call.cny-laws.EditedTrees.{differs_by, same_or_other}
-use Rattle.outcome_laws.specs.RootSteps.{IsRootStep}
+use Rattle.outcome_laws.specs.RootSteps.{IsRootStep, IsSound}
+
+-- ---- one step of the root
+
+-- what a job keeps, and taking back the newest one
+module _ (P : RootState → Type 0) (job_on : (puts : List Put) (list : List TroveParts) (x : RootState) → IsSound list → P x → P (after_job puts list x))
+    (back_on : (o : StackItem) (olds : List StackItem) (x : RootState) → x.stack ≡ o ∷ olds → P x → P (after_rollback o olds x)) where
+  backs_on : (os rest : List StackItem) (x : RootState) → x.stack ≡ os ++ rest → P x → P (after_rollbacks os rest x)
+  backs_on [] rest x stack h = h
+  backs_on (o ∷ os) rest x stack h = backs_on os rest (after_rollback o (os ++ rest) x) refl (back_on o (os ++ rest) x stack h)
+
+  pub step_on : (x y : RootState) → P x → IsRootStep x y → P y
+  step_on x y h (inl same) = subst P (sym same) h
+  step_on x y h (inr (inl job)) = subst P (sym job.is) (job_on job.puts job.list x job.sound h)
+  step_on x y h (inr (inr back)) = subst P (sym back.is) (backs_on (jobs_to back.number x.stack) (jobs_below back.number x.stack) x (split_at back.number x.stack) h)
 
 -- ---- the trees of one job
 
@@ -105,14 +119,8 @@ module _ (o : StackItem) where
       ap (old_node newer q) (back_node p x.tree q)
       ∙ h (p ∷ newer) lower (stack ∙ ap (λ (l : List StackItem). p ∷ l) is) q own
 
-  backs_stand : (os rest : List StackItem) (x : RootState) → x.stack ≡ os ++ rest → Stands o x → Stands o (after_rollbacks os rest x)
-  backs_stand [] rest x stack h = h
-  backs_stand (p ∷ os) rest x stack h = backs_stand os rest (after_rollback p (os ++ rest) x) refl (back_stands p (os ++ rest) x stack h)
-
   pub stands_on : (x y : RootState) → Stands o x → IsRootStep x y → Stands o y
-  stands_on x y h (inl same) = subst (Stands o) (sym same) h
-  stands_on x y h (inr (inl job)) = subst (Stands o) (sym job.is) (job_stands job.puts job.list x h)
-  stands_on x y h (inr (inr back)) = subst (Stands o) (sym back.is) (backs_stand (jobs_to back.number x.stack) (jobs_below back.number x.stack) x (split_at back.number x.stack) h)
+  stands_on = step_on (Stands o) (λ puts list x sound h. job_stands puts list x h) back_stands
 
   -- an edit at another path
   pub edit_stands : (e : Edit) (x : RootState) → is_listed o.paths e.path ≡ false → Stands o x → Stands o (edited x e)
@@ -192,14 +200,8 @@ module _ (o : StackItem) where
       before : (newer lower : List StackItem) → olds ≡ newer ++ o ∷ lower → with_targets (backs p) x.tree ≡ p.before
       before newer lower is = all_back p x.tree (All-head ChangesItsPaths p olds items) (h.follow (p ∷ newer) lower (behind newer lower is)).0
 
-  backs_follow : (os rest : List StackItem) (x : RootState) → x.stack ≡ os ++ rest → Follows o x → Follows o (after_rollbacks os rest x)
-  backs_follow [] rest x stack h = h
-  backs_follow (p ∷ os) rest x stack h = backs_follow os rest (after_rollback p (os ++ rest) x) refl (back_follows p (os ++ rest) x stack h)
-
   pub follows_on : (x y : RootState) → Follows o x → IsRootStep x y → Follows o y
-  follows_on x y h (inl same) = subst (Follows o) (sym same) h
-  follows_on x y h (inr (inl job)) = subst (Follows o) (sym job.is) (job_follows job.puts job.list x h)
-  follows_on x y h (inr (inr back)) = subst (Follows o) (sym back.is) (backs_follow (jobs_to back.number x.stack) (jobs_below back.number x.stack) x (split_at back.number x.stack) h)
+  follows_on = step_on (Follows o) (λ puts list x sound h. job_follows puts list x h) back_follows
 
   pub follows_first : (x : RootState) (olds : List StackItem) → IsSystemState x → x.stack ≡ o ∷ olds → x.tree ≡ o.after → Follows o x
   follows_first x olds system stack tree = record {

@@ -15,6 +15,7 @@ use Rattle.outcome_laws.specs.OneOutcome.{IsState}
 use Rattle.outcome_laws.specs.RootSteps.{HasSoundLists, IsRootStep, StepsRoot}
 use Rattle.outcome_laws.specs.Machine.{answer_of, Answer, AnswersBy, AnswersLine}
 use Rattle.outcome_laws.specs.Histories.{called, crashed, altered, AfterCall, AfterEdit, AfterLines, Event, Folds, OfEdits}
+use Rattle.outcome_laws.specs.Steps.{counts, alters, OfAlterations, Step, StepsTo}
 use Rattle.outcome_laws.proofs.OneAnswer.{unshown_own}
 use Rattle.outcome_laws.proofs.RootSteps.{ask_steps, commit_steps, cook_steps, erase_steps, install_steps, list_committed_steps, list_installed_steps, list_jobs_steps, local_steps, move_steps, roll_back_steps, send_steps, serve_steps, show_steps, take_steps, sync_steps, update_input_steps, update_specs_steps, verify_fully_steps, verify_steps, EachSteps}
 use Rattle.outcome_laws.proofs.SinceJobs.{edit_stands, follows_first, follows_last, follows_on, stands_first, stands_last, stands_on, Follows, Stands}
@@ -92,6 +93,11 @@ module _ (P : RootState → Type 0) (on : (x y : RootState) → P x → IsRootSt
     folds_on (crashed l ∷ events) [] s t spared p h = absurd h
     folds_on (crashed l ∷ events) (cut ∷ cuts) s t spared p h = folds_on events cuts h.0 t spared (call_on l cut s h.0 p h.1) h.2
     folds_on (altered e ∷ events) cuts s t spared p h = folds_on events cuts h.0 t spared.1 (altered_on e s h.0 spared.0 p h.1) h.2
+
+    pub steps_on : (steps : List Step) (s t : State) → OfAlterations Spared steps → P s.root → StepsTo steps s t → P t.root
+    steps_on [] s t spared p h = subst (λ (x : State). P x.root) (sym h) p
+    steps_on (counts l ∷ steps) s t spared p h = steps_on steps h.0.next t spared (on s.root h.0.next.root p (line_step l s h.0 h.1)) h.3
+    steps_on (alters e ∷ steps) s t spared p h = steps_on steps h.0 t spared.1 (altered_on e s h.0 spared.0 p h.1) h.2
 
 -- ---- lists
 

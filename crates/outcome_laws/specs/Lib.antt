@@ -3,9 +3,11 @@ pub mod RootSteps
 pub mod Restoring
 pub mod Machine
 pub mod Histories
+pub mod Steps
 pub mod Images
 pub mod Cuts
 pub mod OnDisks
 pub mod Play
 pub mod Played
+pub mod RolledBack
 pub mod Syncs

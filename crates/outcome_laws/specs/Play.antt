@@ -5,6 +5,7 @@ use Rattle.conary_cli.specs.cli-call.cny-base.declared.node.Node.{Node}
 use Rattle.conary_cli.specs.cli-call.cny-base.declared.text.OutOfMemory.{OutOfMemory}
 use Rattle.conary_cli.specs.cli-call.tree-disk.Disk.{IsImageOf}
 use Rattle.conary_cli.specs.cli-call.tree-disk.Tree.{Name, Tree}
+use Rattle.conary_cli.specs.cli-call.cny-laws.Call.{CallState}
 use Rattle.conary_cli.specs.cli-call.cny-laws.Edits.{edited_tree, Edit, IsEdit}
 use Rattle.cny_batch.specs.declared.line.Line.{Line}
 use Rattle.conary_cli.specs.Program.{line_state, told_source, IsSomething}
@@ -43,12 +44,19 @@ outputs_of (met tree ∷ ends) = outputs_of ends
 abbrev pub told_sink : List ℕ → SinkState
 told_sink bytes = record { written = Some bytes; faults = 0 }
 
+-- the moments before a call and behind it: with just the input of a line, and an output that held nothing
+abbrev pub at_entry : Line → MemoryTree → MemoryTree → CallState MemoryTree MemoryTree
+at_entry l root repo = line_state (told_source l.input) root repo (told_sink [])
+
+abbrev pub at_end : List ℕ → List ℕ → MemoryTree → MemoryTree → CallState MemoryTree MemoryTree
+at_end left out root repo = line_state (told_source left) root repo (told_sink out)
+
 -- `run` was called with the words and just the input of a line, and two outputs that held nothing, and no stream failed: the first
 -- clause of `run`. It wrote these bytes on the output, and answered this status.
 pub record WasMade (l : Line) (status : ℕ) (out : List ℕ) (root root' repo repo' : MemoryTree) : Type 0 where
   pub left : List ℕ
   pub line : List ℕ
-  pub call : IsSomething memory_disk memory_disk l.words (line_state (told_source l.input) root repo (told_sink [])) (line_state (told_source left) root' repo' (told_sink out)) (told_sink []) (told_sink line) status
+  pub call : IsSomething memory_disk memory_disk l.words (at_entry l root repo) (at_end left out root' repo') (told_sink []) (told_sink line) status
 
 -- ---- a stopped call
 

@@ -25,6 +25,6 @@ pub use outcomes::{
     one_moving, one_rollback, one_sending, one_serving, one_sync, one_update, one_update_by_input,
     one_verification, stored_states,
 };
-pub use played::played_laws;
+pub use played::{played_laws, played_rollbacks};
 pub use playing::{Event, play};
 pub use syncs::synced_roots;
