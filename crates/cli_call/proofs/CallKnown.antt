@@ -6,19 +6,18 @@ use Rattle.repo_load.specs.cny-base.Flow.{SourceState}
 use Rattle.cny_laws.specs.system-core.tree-disk.Tree.{Name}
 use Rattle.cny_laws.specs.system-core.tree-disk.Disk.{DiskModel, HasRead, IsDisk}
 use Rattle.cny_laws.proofs.system-core.tree-disk.ConfinedLaws.{confined_start}
-use Rattle.cny_laws.specs.system-core.content-store.Store.{stored}
-use Rattle.repo_load.specs.Files.{contents_dir, repository_base}
+use Rattle.repo_load.specs.Files.{repository_base}
 use Rattle.cny_laws.specs.declared.failure.Failure.{Failure}
 use Rattle.cny_laws.specs.declared.failure.Failure.TheVariants as failure
 use Rattle.cny_laws.specs.declared.opened.Opened.{Opened}
-use Rattle.cny_laws.specs.Call.{CallState, AreOpened, HasOpened, NotOpened}
+use Rattle.cny_laws.specs.Call.{CallState, AreOpened, FilesStay, HasOpened, NotOpened}
 use Rattle.cli_call.specs.Runs.{StopsReading, RunsWith, RunsOpen, RunsCall}
 use Rattle.cny_laws.specs.WholeCall.{CallFrom, EndsByOpened, FromStates, IsOnRepository, IsOnRoot, CallReaches}
 use Rattle.cli_call.proofs.CallEnds.{own_ends, own_unread}
 use Rattle.cli_call.proofs.CallStates.{from_unopened, from_unread, from_run}
 use Rattle.cli_call.specs.Command.{disks}
 use Rattle.cli_call.proofs.InputLaws.{any_input, read_input_of}
-use Rattle.cli_call.proofs.OpenedEnds.{moments_read, opened_holds}
+use Rattle.cli_call.proofs.OpenedEnds.{files_kept, moments_read, opened_holds}
 use Rattle.cli_call.specs.Line.{LineByOpened, LineCause, Moment}
 use Rattle.cny_laws.specs.Reading.{given, Gives, IsInput, ReadsGiven}
 use Rattle.cny_laws.specs.Report.{End}
@@ -112,9 +111,9 @@ module _ {T P : Type 0} {root_disk : DiskModel T} {repo_disk : DiskModel P} (roo
             by_lists = λ is. (same_root, same_repo, λ s has. own_unread m s read.input before.out now.out stops.failure stops.reads read.gives);
             by_tree = λ is told s has. own_unread m s read.input before.out now.out stops.failure stops.reads read.gives;
             by_opened = λ is told repo_told s has. unread_opened read.input stops same_root same_repo read.gives s has;
-            contents_stay = λ is told name of_content. ap (λ (d : P). stored (repo_disk.reads d) contents_dir name) same_repo;
             by_contents = λ is told repo_told whole s has contents. unread_opened read.input stops same_root same_repo read.gives s has;
-            named_stay = λ is told name of_content there. ap (λ (d : P). stored (repo_disk.reads d) contents_dir name) same_repo;
+            by_records = λ is told s has records. own_unread m s read.input before.out now.out stops.failure stops.reads read.gives;
+            files_stay = subst (λ (d : P). FilesStay repo_disk opened.catalogue scope.of_opened repo d) (sym same_repo) (files_kept repo_laws opened.catalogue scope.of_opened repo);
           });
           from = λ told repo_told s recovers. from_unread root_laws repo_laws store_laws scope m before now read.input told repo_told s recovers root repo opened opened' opens stops.failure stops.reads read.gives stops.same;
           on_root = λ is. record {
@@ -159,9 +158,9 @@ module _ {T P : Type 0} {root_disk : DiskModel T} {repo_disk : DiskModel P} (roo
             by_lists = λ is. let by = runs.runs.by_lists is in (by.root, by.repo, λ s has. own_ends m s read.input runs.bytes read.gives before.out now.out s end (by.ends s has));
             by_tree = λ is told s has. own_ends m s read.input runs.bytes read.gives before.out now.out s end (runs.runs.by_tree is told s has);
             by_opened = λ is told repo_told s has. run_opened read.input runs.bytes end read.gives s (runs.runs.by_opened is told repo_told s has);
-            contents_stay = runs.runs.contents_stay;
             by_contents = λ is told repo_told whole s has contents. run_opened read.input runs.bytes end read.gives s (runs.runs.by_contents is told repo_told whole s has contents);
-            named_stay = runs.runs.named_stay;
+            by_records = λ is told s has records. own_ends m s read.input runs.bytes read.gives before.out now.out s end (runs.runs.by_records is told s has records);
+            files_stay = runs.runs.files_stay;
           });
           from = λ told repo_told s recovers. from_run root_laws repo_laws store_laws scope m before now read.input told repo_told s recovers root repo opened opened' opens runs.bytes runs.reads read.gives end runs.runs;
           on_root = λ is. record {

@@ -94,9 +94,9 @@ module _ {T P : Type 0} {root_disk : DiskModel T} {repo_disk : DiskModel P} {m :
     by_lists = λ is. let a = done.lists is in record { root = a.root; repo = a.repo; ends = λ s has. ends s s (a.answers s has) };
     by_tree = λ is told s has. ends s s ((done.tree is).answers told s has);
     by_opened = λ is told repo_told s has. opened_line s (done.opened is repo_told told s has);
-    contents_stay = done.contents;
     by_contents = λ is told repo_told whole s has contents. opened_line s (done.by_contents is told repo_told (undamaged whole) s has contents);
-    named_stay = done.named;
+    by_records = λ is told s has records. ends s s (done.by_records is told s has records);
+    files_stay = done.files;
     root_read = done.root_read;
     repo_read = done.repo_read;
   }

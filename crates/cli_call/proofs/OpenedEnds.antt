@@ -1,5 +1,5 @@
 -- How a command ends by what was read when the disks were opened, whatever else both store.
-use Rattle.std.proofs.Common.{◌≡◌, ⊎_elim, ℕ, ◌≤◌, false, List, Result, Err, refl, sym, ap, ◌∙◌, subst, inl, arith}
+use Rattle.std.proofs.Common.{◌≡◌, ⊎_elim, ℕ, ◌≤◌, Bool, false, List, Result, Err, refl, sym, ap, ◌∙◌, subst, inl, arith}
 use Rattle.std.specs.Prelude.{IsTrue}
 use Rattle.std.specs.FinMap.{get}
 use Rattle.cny_laws.specs.system-core.cny-base.declared.refusal.Fault.{Fault}
@@ -26,13 +26,24 @@ use Rattle.repo_load.specs.State.{catalogue_of}
 use Rattle.cny_laws.specs.declared.failure.Failure.{Failure}
 use Rattle.cny_laws.specs.declared.failure.Failure.TheVariants as failure
 use Rattle.cny_laws.specs.declared.opened.Opened.{Opened}
-use Rattle.cny_laws.specs.Call.{HasOpened, HasWholeContents, HoldsOpened, IsHeldOf}
+use Rattle.cny_laws.specs.Call.{FilesStay, HasOpened, HasWholeContents, HoldsOpened, IsHeldOf, IsKeptFile}
 use Rattle.cny_laws.specs.Failures.{failure_of_fault}
 use Rattle.cny_laws.specs.Report.{status_of}
 use Rattle.cny_laws.specs.State.{tree_of, Effect, Meaning, State}
 use Rattle.cli_call.specs.Alone.{AnswersByContents, AnswersByOpened, AnswersOpened}
 use Rattle.cli_call.specs.Command.{AnswersAs, AreReady, Disks}
 use Rattle.cli_call.proofs.CommandLaws.{AreRead, answers_more}
+use Rattle.cli_call.proofs.StoreLaws.{nothing_done}
+
+-- ---- the files of a repository
+
+-- it was only read
+pub files_read : {P : Type 0} {disk : DiskModel P} → IsDisk disk → (c : CatalogueParts) (all : Bool) (old new : P) → Reads disk old new (Unit {0}) → FilesStay disk c all old new
+files_read laws c all old new read told = confined_read laws (λ q. IsKeptFile c all q → ⊥) (read told)
+
+-- nothing was done on it
+pub files_kept : {P : Type 0} {disk : DiskModel P} → IsDisk disk → (c : CatalogueParts) (all : Bool) (d : P) → FilesStay disk c all d d
+files_kept laws c all d = files_read laws c all d d (λ told. nothing_done laws d)
 
 -- ---- what is held
 

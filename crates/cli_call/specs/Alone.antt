@@ -15,7 +15,7 @@ use Rattle.cny_laws.specs.Shown.{KeepsOthers, IsShown}
 use Rattle.cny_laws.specs.State.{State, Effect, Meaning, Scope}
 use Rattle.cny_laws.specs.Store.{IsSettled, NamesDamaged, RestsAt}
 use Rattle.cny_laws.specs.Stores.{root_store, repository_store}
-use Rattle.cny_laws.specs.Call.{ContentsStay, HasOpenedLists, HasOpened, HasTree, HasWholeContents, HoldsOpened, IsHeldOf, NamedStay}
+use Rattle.cny_laws.specs.Call.{FilesStay, HasOpenedLists, HasOpened, HasTree, HasWholeContents, HoldsOpened, HoldsRecordsOf, IsHeldOf}
 
 module _ {T P : Type 0} (root_disk : DiskModel T) (repo_disk : DiskModel P) where
   -- From a state whose root the root's disk stores, whatever repository the state has: the state after it, and what the root went
@@ -89,6 +89,12 @@ module _ {T P : Type 0} (root_disk : DiskModel T) (repo_disk : DiskModel P) wher
   AnswersByContents m input old new result =
       IsTrue root_disk.tells → IsTrue repo_disk.tells → status_of (end_of result) ≤ 7 → (s : State) → HasOpened root_disk old.root old.opened s → HasWholeContents repo_disk old.repo old.opened s → AnswersOpened (m.IsOutcome s input) s old new result
 
+  -- THE CLAUSE of the function of a command that reads the records of the root's jobs, whatever else both disks store: it answers as on each
+  -- state that has what was read when the disks were opened, and of whose jobs the root holds the records.
+  abbrev pub AnswersByRecords : Meaning → List ℕ → Disks T P → Disks T P → Result (List ℕ) Failure → Type 0
+  AnswersByRecords m input old new result =
+      IsTrue root_disk.tells → (s : State) → HasOpened root_disk old.root old.opened s → HoldsRecordsOf (root_disk.reads old.root) s.root.installed s.root.stack → AnswersAs (m.IsOutcome s input) s s result
+
   -- ALL CLAUSES of a command that works on so much: it was performed, also where it is told of no more than what it works on, and a disk
   -- that it only reads was only read.
   pub record PerformsWithin (scope : Scope) (m : Meaning) (input : List ℕ) (old new : Disks T P) (result : Result (List ℕ) Failure) : Type 0 where
@@ -97,9 +103,9 @@ module _ {T P : Type 0} (root_disk : DiskModel T) (repo_disk : DiskModel P) wher
     pub apart : scope.of_repository ≡ true → ActsOnRepository m input old new result
     pub tree : scope.of_tree ≡ true → AnswersByTree m input old new result
     pub opened : scope.of_opened ≡ true → (scope.of_root ≡ false → IsTrue repo_disk.tells) → AnswersByOpened m input old new result
-    pub contents : scope.of_opened ≡ true → ContentsStay repo_disk old.repo new.repo
     pub by_contents : scope.of_contents ≡ true → AnswersByContents m input old new result
-    pub named : scope.of_contents ≡ true → NamedStay repo_disk old.opened.catalogue.troves old.repo new.repo
+    pub by_records : scope.of_records ≡ true → AnswersByRecords m input old new result
+    pub files : FilesStay repo_disk old.opened.catalogue scope.of_opened old.repo new.repo
     pub lists : scope.of_lists ≡ true → AnswersByLists m input old new result
     pub root_read : scope.reads_root ≡ true → Reads root_disk old.root new.root (Unit {0})
     pub repo_read : scope.reads_repository ≡ true → Reads repo_disk old.repo new.repo (Unit {0})

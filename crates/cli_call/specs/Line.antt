@@ -13,7 +13,7 @@ use Rattle.cny_laws.specs.system-core.tree-disk.Unfailed.{UnlessFailed}
 use Rattle.cny_laws.specs.declared.failure.Failure.{Failure}
 use Rattle.cny_laws.specs.declared.failure.Failure.TheVariants as failure
 use Rattle.cny_laws.specs.declared.opened.Opened.{Opened}
-use Rattle.cny_laws.specs.Call.{ContentsStay, HasOpenedLists, HasOpened, HasTree, HasWholeContents, HoldsOpened, IsHeldOf, NamedStay}
+use Rattle.cny_laws.specs.Call.{FilesStay, HasOpenedLists, HasOpened, HasTree, HasWholeContents, HoldsOpened, HoldsRecordsOf, IsHeldOf}
 use Rattle.cli_call.specs.Command.{Disks, disks, Goes, StandsFor, Rest, ReadsSame, HasDamage}
 use Rattle.cny_laws.specs.Shown.{KeepsOthers, IsShown}
 use Rattle.cny_laws.specs.Report.{ChangesNothing, End, status_of}
@@ -138,9 +138,9 @@ module _ {T P : Type 0} (root_disk : DiskModel T) (repo_disk : DiskModel P) wher
     pub by_lists : scope.of_lists ≡ true → LineByLists m input old new end
     pub by_tree : scope.of_tree ≡ true → LineByTree m input old new end
     pub by_opened : scope.of_opened ≡ true → IsTrue root_disk.tells → (scope.of_root ≡ false → IsTrue repo_disk.tells) → (s : State) → HasOpened root_disk old.at.root old.at.opened s → LineByOpened (m.IsOutcome s input) s old new end
-    pub contents_stay : scope.of_opened ≡ true → ContentsStay repo_disk old.at.repo new.at.repo
     pub by_contents : scope.of_contents ≡ true → IsTrue root_disk.tells → IsTrue repo_disk.tells → status_of end ≤ 7 → (s : State) → HasOpened root_disk old.at.root old.at.opened s → HasWholeContents repo_disk old.at.repo old.at.opened s → LineByOpened (m.IsOutcome s input) s old new end
-    pub named_stay : scope.of_contents ≡ true → NamedStay repo_disk old.at.opened.catalogue.troves old.at.repo new.at.repo
+    pub by_records : scope.of_records ≡ true → IsTrue root_disk.tells → (s : State) → HasOpened root_disk old.at.root old.at.opened s → HoldsRecordsOf (root_disk.reads old.at.root) s.root.installed s.root.stack → EndsWriting (m.IsOutcome s input) s s old.out new.out end
+    pub files_stay : FilesStay repo_disk old.at.opened.catalogue scope.of_opened old.at.repo new.at.repo
     -- a disk that it only reads
     pub root_read : scope.reads_root ≡ true → Reads root_disk old.at.root new.at.root (Unit {0})
     pub repo_read : scope.reads_repository ≡ true → Reads repo_disk old.at.repo new.at.repo (Unit {0})

@@ -1,11 +1,11 @@
 -- What a call works on, and how its disks are opened.
-use Rattle.std.specs.Prelude.{◌≡◌, ◌⊎◌, ℕ, true, IsTrue, List, Option, Result, Ok, Err}
+use Rattle.std.specs.Prelude.{◌≡◌, ◌⊎◌, ℕ, ◌≤◌, Bool, true, ◌||◌, IsTrue, List, [], ◌∷◌, Option, Result, Ok, Err}
 use Rattle.system_core.specs.cny-base.declared.stop.Stop.{Stop}
 use Rattle.repo_load.specs.cny-base.Flow.{SourceModel, SourceState, source_state, SinkModel, SinkState, sink_state}
 use Rattle.system_core.specs.tree-disk.Disk.{DiskModel}
 use Rattle.repo_index.specs.Catalogue.{CatalogueParts, has_content}
 use Rattle.repo_load.specs.Contents.{FindsContent}
-use Rattle.repo_load.specs.Files.{contents_dir, HoldsCatalogue}
+use Rattle.repo_load.specs.Files.{commit_file, contents_dir, HoldsCatalogue}
 use Rattle.repo_load.specs.Loading.{IsCatalogue}
 use Rattle.cny_laws.specs.declared.failure.Failure.{Failure}
 use Rattle.cny_laws.specs.declared.opened.Opened.{Opened}
@@ -17,12 +17,15 @@ use Rattle.cny_laws.specs.Stores.{repository_store}
 use Rattle.local_db.specs.declared.db.Db.{Db}
 use Rattle.local_db.specs.declared.format.Format.TheVariants.{Two}
 use Rattle.local_db.specs.Stores.{HoldsDatabase}
-use Rattle.local_db.specs.SystemState.{IsSystemState, newest, oldest}
+use Rattle.local_db.specs.Record.{entries_of}
+use Rattle.local_db.specs.SystemState.{IsSystemState, StackItem, newest, oldest}
 use Rattle.system_core.specs.Job.{db_of}
 use Rattle.system_core.specs.JobWriting.{RecoversToHeld}
-use Rattle.system_core.specs.content-store.Store.{stored, IsContentName}
+use Rattle.system_core.specs.rollback-stack.JobReading.{HoldsRecord}
+use Rattle.system_core.specs.content-store.Store.{content_path, IsContentName}
 use Rattle.system_core.specs.cny-base.Reserved.{is_reserved}
-use Rattle.system_core.specs.tree-disk.Tree.{AgreesOutside, Tree}
+use Rattle.system_core.specs.tree-disk.Confined.{Confined}
+use Rattle.system_core.specs.tree-disk.Tree.{AgreesOutside, Name, Tree}
 use Rattle.system_core.specs.trove-stream.declared.parts.TroveParts.{TroveParts}
 use Rattle.repo_load.specs.State.{catalogue_of, troves_of}
 use Rattle.cny_laws.specs.State.{State, tree_of}
@@ -64,17 +67,22 @@ pub record HoldsOpened {T P : Type 0} (root_disk : DiskModel T) (repo_disk : Dis
 abbrev pub IsHeldOf : State → State → Tree → Type 0
 IsHeldOf s next image = RecoversToHeld (tree_of s.root) (db_of s.root) image ⊎ RecoversToHeld (tree_of next.root) (db_of next.root) image
 
+-- the tree holds the records of these jobs, from the newest down, each read against the list after it
+abbrev pub HoldsRecordsOf : Tree → List TroveParts → List StackItem → Type 0
+HoldsRecordsOf tree after [] = Unit {0}
+HoldsRecordsOf tree after (o ∷ olds) = HoldsRecord Two tree o.number after o.list (entries_of o) × HoldsRecordsOf tree o.list olds
+
 -- what a search of the repository's contents finds is so in the state: the bytes that stand whole, or none where no trove names them
 abbrev pub HasWholeContents : {P : Type 0} → DiskModel P → P → Opened → State → Type 0
 HasWholeContents repo_disk repo opened s = (name : List ℕ) (found : Option (List ℕ)) → FindsContent opened.catalogue.troves name (repo_disk.reads repo) found → found ≡ s.repository.contents name
 
--- what stands in a repository under the name of each content that one of the troves names is what stood there
-abbrev pub NamedStay : {P : Type 0} → DiskModel P → List TroveParts → P → P → Type 0
-NamedStay repo_disk troves old new = IsTrue repo_disk.tells → (name : List ℕ) → IsContentName name → has_content name troves ≡ true → stored (repo_disk.reads new) contents_dir name ≡ stored (repo_disk.reads old) contents_dir name
+-- the file of a commit of the catalogue, or that of a content: of one that the troves of the catalogue name, or of all
+abbrev pub IsKeptFile : CatalogueParts → Bool → Name → Type 0
+IsKeptFile catalogue all q = ((number : ℕ) × (number ≤ catalogue.commits) × (q ≡ commit_file number)) ⊎ ((name : List ℕ) × IsContentName name × ((all || has_content name catalogue.troves) ≡ true) × (q ≡ content_path contents_dir name))
 
--- what stands in a repository under the name of each content is what stood there
-abbrev pub ContentsStay : {P : Type 0} → DiskModel P → P → P → Type 0
-ContentsStay repo_disk old new = IsTrue repo_disk.tells → (name : List ℕ) → IsContentName name → stored (repo_disk.reads new) contents_dir name ≡ stored (repo_disk.reads old) contents_dir name
+-- at every moment what stands in a repository at the names of such files is what stood there
+abbrev pub FilesStay : {P : Type 0} → DiskModel P → CatalogueParts → Bool → P → P → Type 0
+FilesStay repo_disk catalogue all old new = IsTrue repo_disk.tells → Confined repo_disk (λ q. IsKeptFile catalogue all q → ⊥) old new
 
 module _ {T P : Type 0} (root_disk : DiskModel T) (repo_disk : DiskModel P) where
   -- ---- opening

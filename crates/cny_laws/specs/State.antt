@@ -42,14 +42,15 @@ pub record Meaning : Type 1 where
 
 -- What a command works on: the root alone, whatever the repository's disk tells or stores; the repository alone, whatever the root's
 -- does; the root's tree outside its private directory and its installed list alone, whatever else both disks store; the same with all that
--- was read when the disks were opened, or also with contents of the repository; or only the lists that were read then. And which of the
--- disks it only reads.
+-- was read when the disks were opened, or also with contents of the repository, or with the records of the root's jobs; or only the lists
+-- that were read then. And which of the disks it only reads.
 pub record Scope : Type 0 where
   pub of_root : Bool
   pub of_repository : Bool
   pub of_tree : Bool
   pub of_opened : Bool
   pub of_contents : Bool
+  pub of_records : Bool
   pub of_lists : Bool
   pub reads_root : Bool
   pub reads_repository : Bool

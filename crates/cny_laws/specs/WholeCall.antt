@@ -18,14 +18,14 @@ use Rattle.repo_load.specs.Files.{repository_base}
 use Rattle.repo_load.specs.State.{RepositoryState}
 use Rattle.cny_laws.specs.declared.failure.Failure.{Failure}
 use Rattle.cny_laws.specs.declared.opened.Opened.{Opened}
-use Rattle.cny_laws.specs.Call.{ContentsStay, HasOpenedLists, HasOpened, HasTree, HasWholeContents, HoldsOpened, IsHeldOf, NamedStay, CallState, AreOpened, NotOpened, OpensRoot, StopsForRepository, StopsForRoot}
+use Rattle.cny_laws.specs.Call.{FilesStay, HasOpenedLists, HasOpened, HasTree, HasWholeContents, HoldsOpened, HoldsRecordsOf, IsHeldOf, CallState, AreOpened, NotOpened, OpensRoot, StopsForRepository, StopsForRoot}
 use Rattle.cny_laws.specs.Shown.{KeepsOthers, IsShown}
 use Rattle.cny_laws.specs.Report.{ChangesNothing, End, Reports, status_of}
 use Rattle.system_core.specs.FixedDirs.{fixed_dirs}
 use Rattle.cny_laws.specs.Reading.{given, left_by, Gives, IsInput, ReadsGiven}
 use Rattle.system_core.specs.tree-journal.Recovered.{RecoversToNone, IsKept, RefusesLog}
 use Rattle.cny_laws.specs.RootOpening.{IsRootKept, RecoversOutside, ShowsBetween}
-use Rattle.cny_laws.specs.State.{RootState, State, Effect, Meaning, tree_of, IsNext, OneDisk, Then, Scope, Takes}
+use Rattle.cny_laws.specs.State.{State, Effect, Meaning, tree_of, IsNext, OneDisk, Then, Scope, Takes}
 use Rattle.cny_laws.specs.Store.{Store, Recovers, OneOf, IsEntryOr, HasDamagedFile, NamesDamaged, IsSettled, RestsAt}
 use Rattle.cny_laws.specs.Stores.{root_store, repository_store}
 use Rattle.cny_laws.specs.Edits.{Edit, AreEdits, all_edited, edits_beside, with_tree}
@@ -63,15 +63,6 @@ pub record LivesFrom {D X : Type 0} (store : Store X) (disk : DiskModel D) (Befo
 -- or it isn't opened
 abbrev pub LivesCall : {D X : Type 0} → Store X → DiskModel D → (Tree → Type 0) → X → X → D → D → Type 0
 LivesCall store disk Before x y old new = LeavesOnly disk old new Before ⊎ LivesFrom store disk Before x y old new
-
--- The root: until it is opened, an image at entry, or a tree that recovers to the state before.
-abbrev pub LivesRoot : {D : Type 0} → DiskModel D → RootState → RootState → D → D → Type 0
-LivesRoot disk x y old new = LivesCall root_store disk (IsEntryOr root_store disk old x) x y old new
-
--- The repository: until it is opened, an image at entry, or a tree that recovers to all that the disk, as it read at entry,
--- recovers to.
-abbrev pub LivesRepository : {D : Type 0} → DiskModel D → RepositoryState → RepositoryState → D → D → Type 0
-LivesRepository disk x y old new = LivesCall repository_store disk (RecoversAsThen disk repository_store.base old) x y old new
 
 -- ---- how it ended
 
@@ -186,15 +177,16 @@ module _ {T P : Type 0} (root_disk : DiskModel T) (repo_disk : DiskModel P) wher
     -- A command that works on the lists alone that were read when the disks were opened touches neither disk, and ends as its outcome on each
     -- state that has them, whatever else the disks tell or store. Where the root is told, so does one that works on its tree and its installed
     -- list alone; and, where the repository is told too, unless it works on the root alone, one that works on the root's tree and on all that
-    -- was read then, and leaves what stands under the names of contents. Where both are told, so does one that also works on contents, unless
-    -- a damaged file ended it, on each such state that has the contents which stand whole; and it leaves what stands under the names of those
-    -- that are committed.
+    -- was read then. Where both are told, so does one that also works on contents, unless a damaged file ended it, on each such state that has
+    -- the contents which stand whole. Where the root is told, so does one that reads records of jobs, on each such state whose jobs have those
+    -- that the root holds. Any command leaves the files of the commits and of the contents that are committed, however it ends, and
+    -- one that works on no content those of all contents.
     pub by_lists : scope.of_lists ≡ true → (now.root ≡ root) × (now.repo ≡ repo) × ((s : State) → HasOpenedLists opened s → CallEnds (OwnOutcome m s input) s s before.out now.out end)
     pub by_tree : scope.of_tree ≡ true → IsTrue root_disk.tells → (s : State) → HasTree root_disk root opened s → CallEnds (OwnOutcome m s input) s s before.out now.out end
     pub by_opened : scope.of_opened ≡ true → IsTrue root_disk.tells → (scope.of_root ≡ false → IsTrue repo_disk.tells) → (s : State) → HasOpened root_disk root opened s → EndsByOpened m input s root before now end
-    pub contents_stay : scope.of_opened ≡ true → ContentsStay repo_disk repo now.repo
     pub by_contents : scope.of_contents ≡ true → IsTrue root_disk.tells → IsTrue repo_disk.tells → status_of end ≤ 7 → (s : State) → HasOpened root_disk root opened s → HasWholeContents repo_disk repo opened s → EndsByOpened m input s root before now end
-    pub named_stay : scope.of_contents ≡ true → NamedStay repo_disk opened.catalogue.troves repo now.repo
+    pub by_records : scope.of_records ≡ true → IsTrue root_disk.tells → (s : State) → HasOpened root_disk root opened s → HoldsRecordsOf (root_disk.reads root) s.root.installed s.root.stack → CallEnds (OwnOutcome m s input) s s before.out now.out end
+    pub files_stay : FilesStay repo_disk opened.catalogue scope.of_opened repo now.repo
 
   -- The disks weren't opened, and nothing else was done; or they were.
   abbrev pub CallReaches : Scope → Meaning → List ℕ → CallState T P → CallState T P → End → Type 0
@@ -275,13 +267,15 @@ module _ {T P : Type 0} (root_disk : DiskModel T) (repo_disk : DiskModel P) wher
   abbrev pub LivePair : CallState T P → CallState T P → End → (T → Type 0) → (P → Type 0) → Type 0
   LivePair before now end Root Repo = NotOpened root_disk repo_disk before now end ⊎ LiveOpened before now Root Repo
 
-  -- the state after the call, and what each disk went through
+  -- The state after the call, and what each disk went through. Until it is opened a crash leaves of the root an image at entry, or a tree that
+  -- recovers to the state before, and of the repository an image at entry, or a tree that recovers to all that the disk, as it read at
+  -- entry, recovers to.
   pub record CallFrom (m : Meaning) (input : List ℕ) (s : State) (before now : CallState T P) (end : End) : Type 0 where
     pub next : State
     pub ends : CallEnds (Outcome m s input) s next before.out now.out end
     pub apart : OneDisk s next
-    pub root : LivesRoot root_disk s.root next.root before.root now.root
-    pub repo : LivesRepository repo_disk s.repository next.repository before.repo now.repo
+    pub root : LivesCall root_store root_disk (IsEntryOr root_store root_disk before.root s.root) s.root next.root before.root now.root
+    pub repo : LivesCall repository_store repo_disk (RecoversAsThen repo_disk repository_store.base before.repo) s.repository next.repository before.repo now.repo
     -- from where both were opened a crash leaves of each a tree that recovers to its state before or to the one after
     pub pair : LivePair before now end (λ root. LeavesOnly root_disk root now.root (OneOf root_store s.root next.root)) (λ repo. LeavesOnly repo_disk repo now.repo (OneOf repository_store s.repository next.repository))
     pub rests : HasEffect end → RestBoth now next
@@ -314,7 +308,7 @@ module _ {T P : Type 0} (root_disk : DiskModel T) (repo_disk : DiskModel P) wher
     pub ends : StopsForRepository root_disk repo_disk before now end ⊎ CallEnds (Outcome m s input) s next before.out now.out end
     pub is_next : IsNext (Outcome m s input) s next
     pub stays : next.repository ≡ s.repository
-    pub root : LivesRoot root_disk s.root next.root before.root now.root
+    pub root : LivesCall root_store root_disk (IsEntryOr root_store root_disk before.root s.root) s.root next.root before.root now.root
     pub pair : LivePair before now end (λ root. LeavesOnly root_disk root now.root (OneOf root_store s.root next.root)) (λ repo. Unit {0})
     pub rests : HasEffect end → RestsAt root_store root_disk now.root next.root
     pub reads : OneOf root_store s.root next.root (root_disk.reads now.root)
@@ -339,7 +333,7 @@ module _ {T P : Type 0} (root_disk : DiskModel T) (repo_disk : DiskModel P) wher
     pub next : RepositoryState
     pub ends : StopsForRoot root_disk repo_disk before now end ⊎ CallEnds (OwnOutcome m s input) s (record { root = s.root; repository = next }) before.out now.out end
     pub is_next : IsNext (OwnOutcome m s input) s (record { root = s.root; repository = next })
-    pub repo : LivesRepository repo_disk s.repository next before.repo now.repo
+    pub repo : LivesCall repository_store repo_disk (RecoversAsThen repo_disk repository_store.base before.repo) s.repository next before.repo now.repo
     pub pair : LivePair before now end (λ root. Unit {0}) (λ repo. LeavesOnly repo_disk repo now.repo (OneOf repository_store s.repository next))
     pub rests : HasEffect end → RestsAt repository_store repo_disk now.repo next
     pub reads : OneOf repository_store s.repository next (repo_disk.reads now.repo)

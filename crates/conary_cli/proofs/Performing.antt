@@ -1,22 +1,19 @@
 -- How a command is performed, by what its own function says.
-use Rattle.std.proofs.Common.{◌≡◌, ℕ, Bool, true, false, List, Result, ap, refl, subst, sym, ◌∙◌}
+use Rattle.std.proofs.Common.{◌≡◌, ℕ, Bool, true, false, List, Result, refl, subst, sym, ◌∙◌}
 use Rattle.std.specs.Prelude.{IsTrue, OnOk}
 use Rattle.std.proofs.lemmas.Bool.{false≢true}
 use Rattle.root_commands.specs.cli-call.tree-disk.Disk.{DiskModel, HasRead, IsDisk, Reads}
-use Rattle.root_commands.specs.cli-call.content-store.Store.{stored}
-use Rattle.root_commands.specs.cli-call.tree-disk.Tree.{Tree}
-use Rattle.root_commands.specs.cli-call.trove-stream.declared.parts.TroveParts.{TroveParts}
-use Rattle.repo_load.specs.Files.{contents_dir}
-use Rattle.root_commands.specs.cli-call.cny-laws.Call.{ContentsStay, NamedStay}
+use Rattle.root_commands.specs.cli-call.cny-laws.Call.{FilesStay}
 use Rattle.root_commands.specs.cli-call.cny-laws.declared.failure.Failure.{Failure}
-use Rattle.root_commands.specs.cli-call.Alone.{ActsOnRepository, AnswersByContents, AnswersByLists, AnswersByOpened, AnswersByTree, PerformsAlone}
+use Rattle.root_commands.specs.cli-call.Alone.{ActsOnRepository, AnswersByContents, AnswersByLists, AnswersByOpened, AnswersByRecords, AnswersByTree, PerformsAlone}
 use Rattle.root_commands.specs.cli-call.Command.{AreReady, Disks, Performs}
 use Rattle.root_commands.proofs.cli-call.CommandLaws.{acts_performed}
+use Rattle.root_commands.proofs.cli-call.OpenedEnds.{files_read}
 use Rattle.root_commands.proofs.cli-call.RootLaws.{root_laws}
 use Rattle.root_commands.proofs.cli-call.StoreLaws.{nothing_done}
 use Rattle.root_commands.specs.Records.{NoneIs}
 use Rattle.cli_words.specs.declared.words.Command.{Command}
-use Rattle.conary_cli.specs.Commands.{is_of_contents, is_of_lists, is_of_opened, is_of_repository, is_of_root, is_of_tree, meaning, reads_repository, reads_root, PerformsCommand}
+use Rattle.conary_cli.specs.Commands.{is_of_contents, is_of_lists, is_of_opened, is_of_records, is_of_repository, is_of_root, is_of_tree, meaning, reads_repository, reads_root, PerformsCommand}
 use Rattle.conary_cli.specs.Records.{EndsWhole, IsDamagedFirst, IsDamagedFor}
 use Rattle.conary_cli.proofs.RecordEnds.{none_read}
 
@@ -26,14 +23,6 @@ again_as {A = A} {E = E} X own shown is h = subst (λ (r : Result A E). OnOk r X
 
 pub never : {A : Type 0} (b : Bool) → b ≡ false → b ≡ true → A
 never b off on = absurd (false≢true (sym off ∙ on))
-
--- contents on a disk on which nothing was done
-contents_left : {P : Type 0} (disk : DiskModel P) (old new : P) → new ≡ old → ContentsStay disk old new
-contents_left {P = P} disk old new same told name of_content = ap (λ (d : P). stored (disk.reads d) contents_dir name) same
-
--- those of committed troves on a disk that was only read
-pub named_left : {P : Type 0} (disk : DiskModel P) (troves : List TroveParts) (old new : P) → Reads disk old new (Unit {0}) → NamedStay disk troves old new
-named_left disk troves old new read told name of_content there = ap (λ (t : Tree). stored t contents_dir name) (read told).same.reads
 
 -- a disk on which nothing was done was only read
 pub untouched : {D : Type 0} {disk : DiskModel D} → IsDisk disk → (old new : D) → new ≡ old → Reads disk old new (Unit {0})
@@ -63,9 +52,20 @@ module _ {T P : Type 0} {root_disk : DiskModel T} {repo_disk : DiskModel P} (roo
   abbrev pub ByOpened : Command → Type 0
   ByOpened c = is_of_opened c ≡ true → (is_of_root c ≡ false → IsTrue repo_disk.tells) → AnswersByOpened root_disk repo_disk (meaning c) input old new result
 
-  -- also by the contents that stand whole, while what stands under the names of committed contents stays
+  -- also by the contents that stand whole
   abbrev pub ByContents : Command → Type 0
-  ByContents c = is_of_contents c ≡ true → AnswersByContents root_disk repo_disk (meaning c) input old new result × NamedStay repo_disk old.opened.catalogue.troves old.repo new.repo
+  ByContents c = is_of_contents c ≡ true → AnswersByContents root_disk repo_disk (meaning c) input old new result
+
+  -- by the records of the root's jobs
+  abbrev pub ByRecords : Command → Type 0
+  ByRecords c = is_of_records c ≡ true → AnswersByRecords root_disk repo_disk (meaning c) input old new result
+
+  -- the files of commits and contents stay
+  abbrev pub KeepsFiles : Command → Type 0
+  KeepsFiles c = FilesStay repo_disk old.opened.catalogue (is_of_opened c) old.repo new.repo
+
+  reading : (c : Command) → RepoRead → KeepsFiles c
+  reading c read = files_read repo_disk_laws old.opened.catalogue (is_of_opened c) old.repo new.repo read
 
   no_contents : (c : Command) → is_of_contents c ≡ false → ByContents c
   no_contents c off is = never (is_of_contents c) off is
@@ -74,18 +74,18 @@ module _ {T P : Type 0} {root_disk : DiskModel T} {repo_disk : DiskModel P} (roo
   no_opened c off is = never (is_of_opened c) off is
 
   -- on the root alone, and neither on its tree nor on the lists alone
-  of_root : (c : Command) → is_of_repository c ≡ false → is_of_lists c ≡ false → is_of_tree c ≡ false → is_of_contents c ≡ false → ByOpened c → Performs root_disk repo_disk (meaning c) input old new result → PerformsAlone root_disk repo_disk (meaning c) input old new result
+  of_root : (c : Command) → is_of_repository c ≡ false → is_of_lists c ≡ false → is_of_tree c ≡ false → is_of_contents c ≡ false → ByOpened c → ByRecords c → Performs root_disk repo_disk (meaning c) input old new result → PerformsAlone root_disk repo_disk (meaning c) input old new result
       → (reads_root c ≡ true → RootRead) → Whole c → PerformsCommand root_disk repo_disk c input old new result
-  of_root c off none none' bare opened performs alone read whole = record {
+  of_root c off none none' bare opened by_records performs alone read whole = record {
     performs = record {
       performs = performs;
       alone = λ is. alone;
       apart = λ is. never (is_of_repository c) off is;
       tree = λ is. never (is_of_tree c) none' is;
       opened = opened;
-      contents = λ is. contents_left repo_disk old.repo new.repo alone.repo;
-      by_contents = λ is. (no_contents c bare is).0;
-      named = λ is. (no_contents c bare is).1;
+      by_contents = no_contents c bare;
+      by_records = by_records;
+      files = reading c (untouched repo_disk_laws old.repo new.repo alone.repo);
       lists = λ is. never (is_of_lists c) none is;
       root_read = read;
       repo_read = λ is. untouched repo_disk_laws old.repo new.repo alone.repo;
@@ -94,28 +94,28 @@ module _ {T P : Type 0} {root_disk : DiskModel T} {repo_disk : DiskModel P} (roo
   }
 
   -- of one that reads records
-  pub on_records : (c : Command) → is_of_repository c ≡ false → is_of_lists c ≡ false → is_of_tree c ≡ false → is_of_contents c ≡ false → is_of_opened c ≡ false → Performs root_disk repo_disk (meaning c) input old new result → PerformsAlone root_disk repo_disk (meaning c) input old new result
+  pub on_records : (c : Command) → is_of_repository c ≡ false → is_of_lists c ≡ false → is_of_tree c ≡ false → is_of_contents c ≡ false → is_of_opened c ≡ false → ByRecords c → Performs root_disk repo_disk (meaning c) input old new result → PerformsAlone root_disk repo_disk (meaning c) input old new result
       → (reads_root c ≡ true → RootRead) → Whole c → PerformsCommand root_disk repo_disk c input old new result
-  on_records c off none none' bare shut performs alone read whole = of_root c off none none' bare (no_opened c shut) performs alone read whole
+  on_records c off none none' bare shut by_records performs alone read whole = of_root c off none none' bare (no_opened c shut) by_records performs alone read whole
 
   -- of a job, which reads none
-  pub on_root : (c : Command) → is_of_repository c ≡ false → is_of_lists c ≡ false → is_of_tree c ≡ false → is_of_contents c ≡ false → reads_root c ≡ false → Performs root_disk repo_disk (meaning c) input old new result → PerformsAlone root_disk repo_disk (meaning c) input old new result
+  pub on_root : (c : Command) → is_of_repository c ≡ false → is_of_lists c ≡ false → is_of_tree c ≡ false → is_of_contents c ≡ false → is_of_records c ≡ false → reads_root c ≡ false → Performs root_disk repo_disk (meaning c) input old new result → PerformsAlone root_disk repo_disk (meaning c) input old new result
       → AnswersByOpened root_disk repo_disk (meaning c) input old new result → ReadsNone c → RefusedNone c → PerformsCommand root_disk repo_disk c input old new result
-  on_root c off none none' bare writes performs alone opened reads refused = of_root c off none none' bare (λ is told. opened) performs alone (λ is. never (reads_root c) writes is) (no_record c reads refused)
+  on_root c off none none' bare unread writes performs alone opened reads refused = of_root c off none none' bare (λ is told. opened) (never (is_of_records c) unread) performs alone (λ is. never (reads_root c) writes is) (no_record c reads refused)
 
   -- of one that works on its tree and its list, where it works on the root alone
-  pub on_tree : (c : Command) → is_of_repository c ≡ false → is_of_lists c ≡ false → is_of_opened c ≡ false → ByContents c → Performs root_disk repo_disk (meaning c) input old new result → (is_of_root c ≡ true → PerformsAlone root_disk repo_disk (meaning c) input old new result)
+  pub on_tree : (c : Command) → is_of_repository c ≡ false → is_of_lists c ≡ false → is_of_opened c ≡ false → is_of_records c ≡ false → ByContents c → Performs root_disk repo_disk (meaning c) input old new result → (is_of_root c ≡ true → PerformsAlone root_disk repo_disk (meaning c) input old new result)
       → (is_of_tree c ≡ true → AnswersByTree root_disk repo_disk (meaning c) input old new result) → RootRead → RepoRead → ReadsNone c → RefusedNone c → PerformsCommand root_disk repo_disk c input old new result
-  on_tree c off none shut whole performs alone tree root_read repo_read reads refused = record {
+  on_tree c off none shut unread whole performs alone tree root_read repo_read reads refused = record {
     performs = record {
       performs = performs;
       alone = alone;
       apart = λ is. never (is_of_repository c) off is;
       tree = tree;
       opened = no_opened c shut;
-      contents = λ is. never (is_of_opened c) shut is;
-      by_contents = λ is. (whole is).0;
-      named = λ is. (whole is).1;
+      by_contents = whole;
+      by_records = never (is_of_records c) unread;
+      files = reading c repo_read;
       lists = λ is. never (is_of_lists c) none is;
       root_read = λ is. root_read;
       repo_read = λ is. repo_read;
@@ -124,18 +124,18 @@ module _ {T P : Type 0} {root_disk : DiskModel T} {repo_disk : DiskModel P} (roo
   }
 
   -- of one that works on lists
-  pub on_list : (c : Command) → is_of_repository c ≡ false → is_of_tree c ≡ false → is_of_opened c ≡ false → ByContents c → Performs root_disk repo_disk (meaning c) input old new result → PerformsAlone root_disk repo_disk (meaning c) input old new result
+  pub on_list : (c : Command) → is_of_repository c ≡ false → is_of_tree c ≡ false → is_of_opened c ≡ false → is_of_records c ≡ false → ByContents c → Performs root_disk repo_disk (meaning c) input old new result → PerformsAlone root_disk repo_disk (meaning c) input old new result
       → AnswersByLists root_disk repo_disk (meaning c) input old new result → ReadsNone c → RefusedNone c → PerformsCommand root_disk repo_disk c input old new result
-  on_list c off none shut whole performs alone lists reads refused = record {
+  on_list c off none shut unread whole performs alone lists reads refused = record {
     performs = record {
       performs = performs;
       alone = λ is. alone;
       apart = λ is. never (is_of_repository c) off is;
       tree = λ is. never (is_of_tree c) none is;
       opened = no_opened c shut;
-      contents = λ is. never (is_of_opened c) shut is;
-      by_contents = λ is. (whole is).0;
-      named = λ is. (whole is).1;
+      by_contents = whole;
+      by_records = never (is_of_records c) unread;
+      files = reading c (untouched repo_disk_laws old.repo new.repo lists.repo);
       lists = λ is. lists;
       root_read = λ is. untouched root_disk_laws old.root new.root lists.root;
       repo_read = λ is. untouched repo_disk_laws old.repo new.repo lists.repo;
@@ -144,18 +144,18 @@ module _ {T P : Type 0} {root_disk : DiskModel T} {repo_disk : DiskModel P} (roo
   }
 
   -- on the repository alone
-  all_of_repository : AreReady root_disk repo_disk old → (c : Command) → is_of_root c ≡ false → is_of_tree c ≡ false → is_of_opened c ≡ false → ByContents c → ActsOnRepository root_disk repo_disk (meaning c) input old new result
+  all_of_repository : AreReady root_disk repo_disk old → (c : Command) → is_of_root c ≡ false → is_of_tree c ≡ false → is_of_opened c ≡ false → is_of_records c ≡ false → ByContents c → KeepsFiles c → ActsOnRepository root_disk repo_disk (meaning c) input old new result
       → (is_of_lists c ≡ true → AnswersByLists root_disk repo_disk (meaning c) input old new result) → (reads_repository c ≡ true → RepoRead) → ReadsNone c → RefusedNone c → PerformsCommand root_disk repo_disk c input old new result
-  all_of_repository ready c off none shut whole acts lists read reads refused = record {
+  all_of_repository ready c off none shut unread whole files acts lists read reads refused = record {
     performs = record {
       performs = acts_performed root_disk_laws root_laws (meaning c) input old new result ready acts;
       alone = λ is. never (is_of_root c) off is;
       apart = λ is. acts;
       tree = λ is. never (is_of_tree c) none is;
       opened = no_opened c shut;
-      contents = λ is. never (is_of_opened c) shut is;
-      by_contents = λ is. (whole is).0;
-      named = λ is. (whole is).1;
+      by_contents = whole;
+      by_records = never (is_of_records c) unread;
+      files = files;
       lists = lists;
       root_read = λ is. untouched root_disk_laws old.root new.root acts.root;
       repo_read = read;
@@ -164,33 +164,33 @@ module _ {T P : Type 0} {root_disk : DiskModel T} {repo_disk : DiskModel P} (roo
   }
 
   -- of one that commits
-  pub on_repository : AreReady root_disk repo_disk old → (c : Command) → is_of_root c ≡ false → is_of_tree c ≡ false → is_of_opened c ≡ false → is_of_lists c ≡ false → reads_repository c ≡ false → ByContents c → ActsOnRepository root_disk repo_disk (meaning c) input old new result
+  pub on_repository : AreReady root_disk repo_disk old → (c : Command) → is_of_root c ≡ false → is_of_tree c ≡ false → is_of_opened c ≡ false → is_of_records c ≡ false → is_of_lists c ≡ false → reads_repository c ≡ false → ByContents c → KeepsFiles c → ActsOnRepository root_disk repo_disk (meaning c) input old new result
       → ReadsNone c → RefusedNone c → PerformsCommand root_disk repo_disk c input old new result
-  on_repository ready c off none shut none' writes whole acts reads refused = all_of_repository ready c off none shut whole acts (λ is. never (is_of_lists c) none' is) (λ is. never (reads_repository c) writes is) reads refused
+  on_repository ready c off none shut unread none' writes whole files acts reads refused = all_of_repository ready c off none shut unread whole files acts (λ is. never (is_of_lists c) none' is) (λ is. never (reads_repository c) writes is) reads refused
 
   -- of one that works on lists
-  pub on_catalogue : AreReady root_disk repo_disk old → (c : Command) → is_of_root c ≡ false → is_of_tree c ≡ false → is_of_opened c ≡ false → ByContents c → ActsOnRepository root_disk repo_disk (meaning c) input old new result → AnswersByLists root_disk repo_disk (meaning c) input old new result
+  pub on_catalogue : AreReady root_disk repo_disk old → (c : Command) → is_of_root c ≡ false → is_of_tree c ≡ false → is_of_opened c ≡ false → is_of_records c ≡ false → ByContents c → ActsOnRepository root_disk repo_disk (meaning c) input old new result → AnswersByLists root_disk repo_disk (meaning c) input old new result
       → ReadsNone c → RefusedNone c → PerformsCommand root_disk repo_disk c input old new result
-  on_catalogue ready c off none shut whole acts lists reads refused = all_of_repository ready c off none shut whole acts (λ is. lists) (λ is. untouched repo_disk_laws old.repo new.repo lists.repo) reads refused
+  on_catalogue ready c off none shut unread whole acts lists reads refused = all_of_repository ready c off none shut unread whole (reading c (untouched repo_disk_laws old.repo new.repo lists.repo)) acts (λ is. lists) (λ is. untouched repo_disk_laws old.repo new.repo lists.repo) reads refused
 
   -- of one that reads its contents
-  pub on_contents : AreReady root_disk repo_disk old → (c : Command) → is_of_root c ≡ false → is_of_tree c ≡ false → is_of_opened c ≡ false → is_of_lists c ≡ false → ByContents c → ActsOnRepository root_disk repo_disk (meaning c) input old new result → RepoRead
+  pub on_contents : AreReady root_disk repo_disk old → (c : Command) → is_of_root c ≡ false → is_of_tree c ≡ false → is_of_opened c ≡ false → is_of_records c ≡ false → is_of_lists c ≡ false → ByContents c → ActsOnRepository root_disk repo_disk (meaning c) input old new result → RepoRead
       → ReadsNone c → RefusedNone c → PerformsCommand root_disk repo_disk c input old new result
-  on_contents ready c off none shut none' whole acts read reads refused = all_of_repository ready c off none shut whole acts (λ is. never (is_of_lists c) none' is) (λ is. read) reads refused
+  on_contents ready c off none shut unread none' whole acts read reads refused = all_of_repository ready c off none shut unread whole (reading c read) acts (λ is. never (is_of_lists c) none' is) (λ is. read) reads refused
 
   -- on both
-  pub on_both : (c : Command) → is_of_root c ≡ false → is_of_repository c ≡ false → is_of_lists c ≡ false → is_of_tree c ≡ false → ByOpened c → (is_of_opened c ≡ true → ContentsStay repo_disk old.repo new.repo) → ByContents c → Performs root_disk repo_disk (meaning c) input old new result → (reads_root c ≡ true → RootRead)
+  pub on_both : (c : Command) → is_of_root c ≡ false → is_of_repository c ≡ false → is_of_lists c ≡ false → is_of_tree c ≡ false → is_of_records c ≡ false → ByOpened c → ByContents c → KeepsFiles c → Performs root_disk repo_disk (meaning c) input old new result → (reads_root c ≡ true → RootRead)
       → (reads_repository c ≡ true → RepoRead) → ReadsNone c → RefusedNone c → PerformsCommand root_disk repo_disk c input old new result
-  on_both c off off' none none' opened contents whole performs root_read repo_read reads refused = record {
+  on_both c off off' none none' unread opened whole files performs root_read repo_read reads refused = record {
     performs = record {
       performs = performs;
       alone = λ is. never (is_of_root c) off is;
       apart = λ is. never (is_of_repository c) off' is;
       tree = λ is. never (is_of_tree c) none' is;
       opened = opened;
-      contents = contents;
-      by_contents = λ is. (whole is).0;
-      named = λ is. (whole is).1;
+      by_contents = whole;
+      by_records = never (is_of_records c) unread;
+      files = files;
       lists = λ is. never (is_of_lists c) none is;
       root_read = root_read;
       repo_read = repo_read;

@@ -10,6 +10,7 @@ use Rattle.root_commands.specs.cli-call.Line.{Moment, RunsLine}
 use Rattle.root_commands.specs.cli-call.Runs.{RunsCall, after_opening}
 use Rattle.root_commands.proofs.cli-call.BlockedEnds.{as_pair, as_record}
 use Rattle.root_commands.proofs.cli-call.CallLaws.{opened_ready, whole_call}
+use Rattle.root_commands.proofs.cli-call.OpenedEnds.{files_kept}
 use Rattle.root_commands.proofs.cli-call.CommandLaws.{none_read, performs_reading}
 use Rattle.root_commands.proofs.cli-call.InputLaws.{read_input_of}
 use Rattle.root_commands.proofs.cli-call.LineLaws.{line_written}
@@ -59,9 +60,9 @@ module _ {T P : Type 0} {root_disk : DiskModel T} {repo_disk : DiskModel P} (roo
     apart = λ is. absurd (cc is);
     tree = λ is. absurd (cc is);
     opened = λ is. absurd (cc is);
-    contents = λ is. absurd (cc is);
     by_contents = λ is. absurd (cc is);
-    named = λ is. absurd (cc is);
+    by_records = λ is. absurd (cc is);
+    files = files_kept repo_disk_laws at.at.opened.catalogue false at.at.repo;
     lists = λ is. none_listed e none;
     root_read = λ is told. nothing_done root_disk_laws at.at.root;
     repo_read = λ is told. nothing_done repo_disk_laws at.at.repo;

@@ -4,7 +4,7 @@ use Rattle.cny_version.specs.cny-base.Flow.{SinkState}
 use Rattle.root_commands.specs.cli-call.tree-disk.Tree.{Tree}
 use Rattle.root_commands.specs.cli-call.tree-disk.Disk.{DiskModel}
 use Rattle.root_commands.proofs.cli-call.tree-disk.Unfailed.{unfailed_weaker}
-use Rattle.root_commands.specs.cli-call.Alone.{ActsOnRepository, AnswersByContents, AnswersByLists, AnswersByOpened, AnswersByTree, AnswersOpened, PerformsAlone, PerformsWithin}
+use Rattle.root_commands.specs.cli-call.Alone.{ActsOnRepository, AnswersByContents, AnswersByLists, AnswersByOpened, AnswersByRecords, AnswersByTree, AnswersOpened, PerformsAlone, PerformsWithin}
 use Rattle.root_commands.specs.cli-call.Command.{AnswersAs, Disks, Performs, end_of}
 use Rattle.root_commands.specs.cli-call.Line.{RunsLine, WritesAnswer}
 use Rattle.root_commands.specs.cli-call.cny-laws.declared.failure.Failure.{Failure}
@@ -154,6 +154,9 @@ module _ {T P : Type 0} (root_disk : DiskModel T) (repo_disk : DiskModel P) (m :
   contents_unshown (Ok text) done told repo_told low s has whole = state_unshown s (Ok text) (done told repo_told low s has whole)
   contents_unshown (Err e) done told repo_told low s has whole = state_unshown s (Err e) (done told repo_told low s has whole)
 
+  records_unshown : (result : Result (List ℕ) Failure) → AnswersByRecords root_disk repo_disk m input old new result → AnswersByRecords root_disk repo_disk (unshown m) input old new (without_text result)
+  records_unshown result done told s has records = answers_unshown m input s s result (done told s has records)
+
 -- what a command promises that works on so much
 within_unshown : {T P : Type 0} {root_disk : DiskModel T} {repo_disk : DiskModel P} (scope : Scope) (m : Meaning) (input : List ℕ) (old new : Disks T P) (result : Result (List ℕ) Failure) → PerformsWithin root_disk repo_disk scope m input old new result
     → PerformsWithin root_disk repo_disk scope (unshown m) input old new (without_text result)
@@ -163,9 +166,9 @@ within_unshown {root_disk = root_disk} {repo_disk = repo_disk} scope m input old
   apart = λ is. acts_unshown result (done.apart is);
   tree = λ is. tree_unshown result (done.tree is);
   opened = λ is repo_told. opened_unshown root_disk repo_disk m input old new result (done.opened is repo_told);
-  contents = done.contents;
   by_contents = λ is. contents_unshown root_disk repo_disk m input old new result (done.by_contents is);
-  named = done.named;
+  by_records = λ is. records_unshown root_disk repo_disk m input old new result (done.by_records is);
+  files = done.files;
   lists = λ is. lists_unshown result (done.lists is);
   root_read = done.root_read;
   repo_read = done.repo_read;

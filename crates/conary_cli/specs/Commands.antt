@@ -114,12 +114,18 @@ is_of_opened _ = false
 abbrev pub is_of_contents : Command → Bool
 is_of_contents (command.Cook next) = true
 is_of_contents command.Commit = true
+is_of_contents command.TakeMirror = true
 is_of_contents (command.Update specs options resolve) = true
 is_of_contents (command.UpdateByInput options) = true
 is_of_contents (command.Sync options) = true
 is_of_contents (command.Verify full names) = full
 is_of_contents (command.SendChanges from to) = true
 is_of_contents _ = false
+
+-- the command that reads the records of the root's jobs, and answers what they tell
+abbrev pub is_of_records : Command → Bool
+is_of_records command.ListJobs = true
+is_of_records _ = false
 
 -- the commands that only read the root: all but the jobs and `rollback`
 abbrev pub reads_root : Command → Bool
@@ -146,6 +152,7 @@ scope_of c = record {
   of_tree = is_of_tree c;
   of_opened = is_of_opened c;
   of_contents = is_of_contents c;
+  of_records = is_of_records c;
   of_lists = is_of_lists c;
   reads_root = reads_root c;
   reads_repository = reads_repository c;

@@ -57,7 +57,7 @@ before_lines takes AreLines = record {
 
 -- It works on neither disk: as of a command that answers from the lists alone, all is said whatever the disks tell or store.
 abbrev pub of_input : Scope
-of_input = record { of_root = true; of_repository = false; of_tree = false; of_opened = false; of_contents = false; of_lists = true; reads_root = true; reads_repository = true }
+of_input = record { of_root = true; of_repository = false; of_tree = false; of_opened = false; of_contents = false; of_records = false; of_lists = true; reads_root = true; reads_repository = true }
 
 module _ {T P : Type 0} (root_disk : DiskModel T) (repo_disk : DiskModel P) where
   -- ---- whatever the disks store

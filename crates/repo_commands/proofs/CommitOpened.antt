@@ -1,25 +1,29 @@
 -- How a commit of a change set ends whatever contents are damaged: one without contents by the catalogue alone, any other also by the
 -- contents that stand whole.
-use Rattle.std.proofs.Common.{◌≡◌, inl, inr, ℕ, true, IsTrue, List, [], ◌∷◌, Result, Ok, Err, IfErr, refl, sym, ap, ◌∙◌, subst, length-append, arith}
+use Rattle.std.proofs.Common.{◌≡◌, ◌||◌, inl, inr, ℕ, ◌≤◌, Bool, false, true, IsTrue, List, [], ◌∷◌, Result, Ok, Err, IfErr, refl, sym, ap, ◌∙◌, subst, length-append, arith}
 use Rattle.std.specs.FinMap.{get}
 use Rattle.std.specs.Prelude.{Contains, IfOk}
+use Rattle.cli_call.specs.cny-base.declared.limits.TheConstants.{COMMITS_LIMIT}
 use Rattle.cli_call.specs.cny-base.declared.refusal.Refusal.{Refusal}
 use Rattle.cli_call.specs.cny-base.declared.stop.Stop.{Stop}
 use Rattle.cli_call.specs.cny-base.declared.stop.Stop.TheVariants as stop
 use Rattle.cli_call.specs.tree-disk.Disk.{DiskModel, HasRead, IsDisk, Reads}
 use Rattle.cli_call.specs.tree-disk.Confined.{Confined}
+use Rattle.cli_call.specs.tree-disk.Tree.{Name}
+use Rattle.cli_call.proofs.tree-disk.ConfinedLaws.{confined_wider}
 use Rattle.cli_call.specs.trove-parts.declared.id.TroveId.{TroveId}
 use Rattle.cli_call.specs.trove-stream.declared.parts.TroveParts.{TroveParts}
 use Rattle.cli_call.specs.change-set.declared.change.Carried.{Carried}
 use Rattle.cli_call.specs.change-set.declared.change.ChangeSet.{ChangeSet}
 use Rattle.cli_call.specs.change-set.ChangeSet.{HasContents}
 use Rattle.cli_call.specs.content-store.Contents.{ContentMap}
-use Rattle.cli_call.specs.content-store.Store.{content_path, file_bytes, IsContentName}
+use Rattle.cli_call.specs.content-store.Store.{content_path, IsContentName}
 use Rattle.cny_version.proofs.cny-base.Lists.{nothing_in}
 use Rattle.cli_call.specs.local-db.declared.format.Format.TheVariants.{Two}
 use Rattle.cli_call.specs.local-db.Stores.{HoldsDatabase}
 use Rattle.repo_index.specs.Catalogue.{CatalogueParts, has_content}
-use Rattle.repo_load.specs.Files.{contents_dir, HoldsCatalogue}
+use Rattle.repo_load.specs.Files.{commit_file, contents_dir, HoldsCatalogue}
+use Rattle.repo_load.specs.Loading.{IsCatalogue}
 use Rattle.repo_load.specs.State.{catalogue_of, RepositoryState}
 use Rattle.repo_load.proofs.Following.{troves_push}
 use Rattle.repository.specs.Order.{IsFirstStop}
@@ -30,7 +34,7 @@ use Rattle.repository.specs.Tests.{later_refusal, IsRefused, Passes}
 use Rattle.cny_report.specs.Troves.{committed_text}
 use Rattle.cli_call.specs.cny-laws.declared.failure.Failure.{Failure}
 use Rattle.cli_call.specs.cny-laws.declared.failure.Failure.TheVariants as failure
-use Rattle.cli_call.specs.cny-laws.Call.{ContentsStay, HasOpened, NamedStay}
+use Rattle.cli_call.specs.cny-laws.Call.{FilesStay, HasOpened, IsKeptFile}
 use Rattle.cli_call.specs.cny-laws.State.{State}
 use Rattle.cli_call.specs.cny-laws.Stops.{repository_failure, repository_result}
 use Rattle.cli_call.specs.Alone.{AnswersByContents, AnswersByOpened, AnswersOpened}
@@ -40,9 +44,13 @@ use Rattle.cli_call.proofs.StoreLaws.{nothing_done}
 use Rattle.repo_commands.specs.Commit.{commit_of, committed, Commits}
 use Rattle.repo_commands.proofs.WholeContents.{no_ids, passes_whole, refused_whole}
 
--- a commit writes no file of a content, but of those that it carries and no trove records
-abbrev pub KeepsFiles : Type 0
-KeepsFiles = (c : CatalogueParts) (change : ChangeSet) (name : List ℕ) → HasContents change → IsContentName name
+-- a commit writes no file of a commit that is there
+abbrev pub KeepsCommits : Type 0
+KeepsCommits = (c : CatalogueParts) (change : ChangeSet) (number : ℕ) → HasContents change → c.commits ≤ COMMITS_LIMIT → number ≤ c.commits → IsWrittenName c change.contents (commit_file number) → ⊥
+
+-- and none of a content, but of those that it carries and no trove records
+abbrev pub KeepsContents : Type 0
+KeepsContents = (c : CatalogueParts) (change : ChangeSet) (name : List ℕ) → HasContents change → IsContentName name
     → ((content : Carried) → Contains change.contents content → content.name ≡ name → has_content name c.troves ≡ true) → IsWrittenName c change.contents (content_path contents_dir name) → ⊥
 
 -- ---- values
@@ -70,18 +78,24 @@ module _ (set : ChangeSet) (none : set.contents ≡ []) (c : CatalogueParts) (he
   refused_same refused (inl first) = inl first
   refused_same refused (inr later) = inr (record { troves = later.troves; made = later.made; fails = tests_same later.troves ∙ later.fails })
 
--- ---- contents
+-- ---- files
 
--- it leaves what stands under the names of contents
-pub contents_stay : {P : Type 0} (disk : DiskModel P) (set : ChangeSet) → set.contents ≡ [] → HasContents set → (c : CatalogueParts) (old new : P) → KeepsFiles
-    → (IsTrue disk.tells → Confined disk (IsWrittenName c set.contents) old new) → ContentsStay disk old new
-contents_stay disk set none has c old new kept only told name of_content =
-    ap file_bytes ((only told).reads (content_path contents_dir name)
-    (kept c set name has of_content (λ content among is. absurd (nothing_in content (subst (λ (l : List Carried). Contains l content) none among)))))
+few_commits : (c : CatalogueParts) → IsCatalogue c → c.commits ≤ COMMITS_LIMIT
+few_commits c rules = subst (λ (k : CatalogueParts). k.commits ≤ COMMITS_LIMIT) (sym rules.is) rules.rules.few
 
--- it leaves what stands under the names of committed contents
-pub named_stays : {P : Type 0} (disk : DiskModel P) (set : ChangeSet) → HasContents set → (c : CatalogueParts) (old new : P) → KeepsFiles → (IsTrue disk.tells → Confined disk (IsWrittenName c set.contents) old new) → NamedStay disk c.troves old new
-named_stays disk set has c old new kept only told name of_content there = ap file_bytes ((only told).reads (content_path contents_dir name) (kept c set name has of_content (λ content among is. there)))
+-- it leaves the files of the commits and of committed contents, and where it carries none those of all contents
+module _ {P : Type 0} (disk : DiskModel P) (set : ChangeSet) (has : HasContents set) (c : CatalogueParts) (rules : IsCatalogue c) (old new : P) (keeps_commits : KeepsCommits) (keeps_contents : KeepsContents)
+    (only : IsTrue disk.tells → Confined disk (IsWrittenName c set.contents) old new) where
+  named : (all : Bool) → (all ≡ true → set.contents ≡ []) → (name : List ℕ) → (all || has_content name c.troves) ≡ true → (carried : Carried) → Contains set.contents carried → has_content name c.troves ≡ true
+  named true none name is carried among = absurd (nothing_in carried (subst (λ (l : List Carried). Contains l carried) (none refl) among))
+  named false none name is carried among = is
+
+  pub files_stay : (all : Bool) → (all ≡ true → set.contents ≡ []) → FilesStay disk c all old new
+  files_stay all none told = confined_wider (λ q written kept. left q written kept) (only told)
+    where
+      left : (q : Name) → IsWrittenName c set.contents q → IsKeptFile c all q → ⊥
+      left q written (inl commit) = keeps_commits c set commit.0 has (few_commits c rules) commit.1 (subst (IsWrittenName c set.contents) commit.2 written)
+      left q written (inr content) = keeps_contents c set content.0 has content.1 (λ carried among same. named all none content.0 content.2 carried among) (subst (IsWrittenName c set.contents) content.3 written)
 
 -- ---- the clauses
 

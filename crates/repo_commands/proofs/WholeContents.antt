@@ -12,7 +12,6 @@ use Rattle.cli_call.specs.change-set.declared.change.ChangeSet.{ChangeSet}
 use Rattle.cli_call.specs.content-store.Contents.{ContentMap}
 use Rattle.cli_call.specs.content-store.Store.{content_path, stored}
 use Rattle.cli_call.specs.tree-disk.Tree.{Name, Tree}
-use Rattle.cli_call.specs.trove-parts.declared.id.TroveId.{TroveId}
 use Rattle.cli_call.specs.trove-stream.declared.parts.TroveParts.{TroveParts}
 use Rattle.repo_index.specs.Catalogue.{CatalogueParts, has_content}
 use Rattle.repo_load.specs.Contents.{FindsContent, IsDamagedContent, IsRecorded}

@@ -1,7 +1,7 @@
 //! Commits of change sets.
-ghost use Rattle.std.specs.Prelude.{◌≡◌, [], IsTrue, List, ℕ, OnOk};
+ghost use Rattle.std.specs.Prelude.{◌≡◌, [], Bool, false, true, IsTrue, List, ℕ, OnOk};
 ghost use Rattle.cli_call.specs.change-set.ChangeSet.{HasContents};
-ghost use Rattle.cli_call.specs.cny-laws.Call.{ContentsStay, NamedStay};
+ghost use Rattle.cli_call.specs.cny-laws.Call.{FilesStay};
 ghost use Rattle.cli_call.specs.Alone.{ActsOnRepository, AnswersByContents, AnswersByOpened};
 ghost use Rattle.cli_call.specs.Command.{disks, AreReady};
 ghost use Rattle.repo_commands.specs.Commit as spec;
@@ -31,13 +31,11 @@ pub fn commit_set<T: TreeDisk, P: TreeDisk>(
     // A set without contents by the catalogue alone, whatever contents of the repository are damaged.
     ensures opened { IsTrue P.disk.tells → set.now.contents ≡ [] → (input : List ℕ) → AnswersByOpened T.disk P.disk (commit_of set.now) input (disks root.now repo.old opened.old)
         (disks root.now repo.new opened.new) result }
-    // And it leaves what stands under the names of contents.
-    ensures stay { set.now.contents ≡ [] → ContentsStay P.disk repo.old repo.new }
     // Any set by the catalogue and the contents that stand whole, unless it met a damaged one.
     ensures whole { (input : List ℕ) → AnswersByContents T.disk P.disk (commit_of set.now) input (disks root.now repo.old opened.old)
         (disks root.now repo.new opened.new) result }
-    // And it leaves what stands under the names of committed contents.
-    ensures named { NamedStay P.disk opened.old.catalogue.troves repo.old repo.new }
+    // However it ends, it leaves the files of the commits and of committed contents; and a set without contents those of all contents.
+    ensures files { (all : Bool) → (all ≡ true → set.now.contents ≡ []) → FilesStay P.disk opened.old.catalogue all repo.old repo.new }
     // Where it is done, a further command may begin.
     ensures again { OnOk result (AreReady T.disk P.disk (disks root.now repo.new opened.new)) }
 {
@@ -61,9 +59,9 @@ pub fn commit_input<T: TreeDisk, P: TreeDisk>(
 ) -> Result<Text, Failure>
     requires { AreReady T.disk P.disk (disks root.now repo.old opened.old) }
     ensures performs { ActsOnRepository T.disk P.disk spec.commit input.now (disks root.now repo.old opened.old) (disks root.now repo.new opened.new) result }
-    // Also where other contents of the repository are damaged; and what stands under the names of committed contents stays.
+    // Also where other contents of the repository are damaged; and the files of the commits and of committed contents stay.
     ensures whole { AnswersByContents T.disk P.disk spec.commit input.now (disks root.now repo.old opened.old) (disks root.now repo.new opened.new) result }
-    ensures named { NamedStay P.disk opened.old.catalogue.troves repo.old repo.new }
+    ensures files { FilesStay P.disk opened.old.catalogue false repo.old repo.new }
     // Where it is done, a further command may begin.
     ensures again { OnOk result (AreReady T.disk P.disk (disks root.now repo.new opened.new)) }
 {

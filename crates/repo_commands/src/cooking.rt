@@ -1,11 +1,11 @@
 //! What manifests make, committed.
-ghost use Rattle.std.specs.Prelude.{◌≡◌, IfErr, IfOk, Ok, map, OnOk};
+ghost use Rattle.std.specs.Prelude.{◌≡◌, false, IfErr, IfOk, Ok, map, OnOk};
 ghost use Rattle.cli_call.specs.change-set.ChangeSet.{HasContents};
 ghost use Rattle.cli_call.specs.change-set.declared.change.Part.TheVariants.{Whole};
 ghost use Rattle.cny_manifest.specs.Makes.{HasOwnContents};
 ghost use Rattle.repo_index.specs.Next.{HasOneVersion};
 ghost use Rattle.repo_index.specs.Steps.{IsErrOrMemory};
-ghost use Rattle.cli_call.specs.cny-laws.Call.{NamedStay};
+ghost use Rattle.cli_call.specs.cny-laws.Call.{FilesStay};
 ghost use Rattle.cli_call.specs.Alone.{ActsOnRepository, AnswersByContents};
 ghost use Rattle.cli_call.specs.Command.{disks, AreReady};
 ghost use Rattle.repo_commands.specs.Cook as spec;
@@ -80,9 +80,9 @@ pub fn cook_manifest<T: TreeDisk, P: TreeDisk>(
 ) -> Result<Text, Failure>
     requires { AreReady T.disk P.disk (disks root.now repo.old opened.old) }
     ensures performs { ActsOnRepository T.disk P.disk (spec.cook next) input.now (disks root.now repo.old opened.old) (disks root.now repo.new opened.new) result }
-    // Also where other contents of the repository are damaged; and what stands under the names of committed contents stays.
+    // Also where other contents of the repository are damaged; and the files of the commits and of committed contents stay.
     ensures whole { AnswersByContents T.disk P.disk (spec.cook next) input.now (disks root.now repo.old opened.old) (disks root.now repo.new opened.new) result }
-    ensures named { NamedStay P.disk opened.old.catalogue.troves repo.old repo.new }
+    ensures files { FilesStay P.disk opened.old.catalogue false repo.old repo.new }
     // Where it is done, a further command may begin.
     ensures again { OnOk result (AreReady T.disk P.disk (disks root.now repo.new opened.new)) }
 {

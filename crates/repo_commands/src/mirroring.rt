@@ -1,6 +1,7 @@
 //! The commands by which a repository takes over what it lacks of another one.
-ghost use Rattle.std.specs.Prelude.{List, ℕ, OnOk};
-ghost use Rattle.cli_call.specs.Alone.{ActsOnRepository, AnswersByLists};
+ghost use Rattle.std.specs.Prelude.{false, List, ℕ, OnOk};
+ghost use Rattle.cli_call.specs.cny-laws.Call.{FilesStay};
+ghost use Rattle.cli_call.specs.Alone.{ActsOnRepository, AnswersByContents, AnswersByLists};
 ghost use Rattle.cli_call.specs.Command.{disks, AreReady};
 ghost use Rattle.repo_commands.specs.AskMirror as ask_spec;
 ghost use Rattle.repo_commands.specs.TakeMirror as take_spec;
@@ -47,6 +48,9 @@ pub fn take_mirror<T: TreeDisk, P: TreeDisk>(
 ) -> Result<Text, Failure>
     requires { AreReady T.disk P.disk (disks root.now repo.old opened.old) }
     ensures performs { ActsOnRepository T.disk P.disk take_spec.take_mirror input.now (disks root.now repo.old opened.old) (disks root.now repo.new opened.new) result }
+    // Also where other contents of the repository are damaged; and the files of the commits and of committed contents stay.
+    ensures whole { AnswersByContents T.disk P.disk take_spec.take_mirror input.now (disks root.now repo.old opened.old) (disks root.now repo.new opened.new) result }
+    ensures files { FilesStay P.disk opened.old.catalogue false repo.old repo.new }
     // Where it is done, a further command may begin.
     ensures again { OnOk result (AreReady T.disk P.disk (disks root.now repo.new opened.new)) }
 {

@@ -1,7 +1,7 @@
 //! The commands that commit what a specification means as shadows or as branches.
-ghost use Rattle.std.specs.Prelude.{◌≡◌, List, [], ℕ, IfOk, IsTrue, map, OnOk};
+ghost use Rattle.std.specs.Prelude.{◌≡◌, true, List, [], ℕ, IfOk, IsTrue, map, OnOk};
 ghost use Rattle.cli_call.specs.change-set.declared.change.Part.TheVariants.{Whole};
-ghost use Rattle.cli_call.specs.cny-laws.Call.{ContentsStay};
+ghost use Rattle.cli_call.specs.cny-laws.Call.{FilesStay};
 ghost use Rattle.cli_call.specs.Alone.{AnswersByOpened};
 ghost use Rattle.cli_call.specs.Command.{disks, AreReady, Performs};
 ghost use Rattle.cli_call.specs.tree-disk.Disk.{Reads};
@@ -50,8 +50,8 @@ pub fn commit_moved<T: TreeDisk, P: TreeDisk>(
     // Also where other files of the root or contents of the repository are damaged.
     ensures opened { IsTrue P.disk.tells → (input : List ℕ) → AnswersByOpened T.disk P.disk (move way label.now given.now) input (disks root.old repo.old opened.old)
         (disks root.new repo.new opened.new) result }
-    // What stands in the repository under the names of contents stays.
-    ensures contents { ContentsStay P.disk repo.old repo.new }
+    // The files of the commits and of all contents stay.
+    ensures files { FilesStay P.disk opened.old.catalogue true repo.old repo.new }
     // The root is only read.
     ensures root_read { Reads T.disk root.old root.new (Unit {0}) }
     // Where it is done, a further command may begin.

@@ -18,7 +18,7 @@ use Rattle.repo_load.specs.declared.repo_contents.RepoContents.{RepoContents}
 use Rattle.cli_call.specs.tree-scan.declared.verification.Verified.{Verified}
 use Rattle.update_job.specs.Lists.{AreInstalled, IsNotInstalled}
 use Rattle.root_edits.specs.Verify.{asked, verified}
-use Rattle.root_commands.proofs.FoundByMap.{verified_by_map}
+use Rattle.root_edits.proofs.Answered.{verified_by_map}
 use Rattle.cny_report.specs.Verified.{verified_text}
 use Rattle.cli_call.specs.cny-laws.declared.failure.Failure.{Failure}
 use Rattle.cli_call.specs.cny-laws.declared.failure.Failure.TheVariants as failure

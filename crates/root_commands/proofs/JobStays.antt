@@ -1,5 +1,5 @@
 -- A job with a given list after it: the list is installed then, and where it was installed before, nothing changes.
-use Rattle.std.proofs.Common.{◌≡◌, inl, inr, ℕ, Bool, true, false, List, [], Option, Some, None, Ok, refl, sym, ap, ◌∙◌}
+use Rattle.std.proofs.Common.{◌≡◌, inl, inr, Bool, true, false, List, [], Option, Some, None, Ok, refl, sym, ap, ◌∙◌}
 use Rattle.std.specs.FinMap.{get}
 use Rattle.std.specs.Prelude.{is_some, ◌&&◌, ◌||◌, if◌then◌else◌, Contains}
 use Rattle.std.specs.List.Sorted.{IsStrictlySortedBy}
@@ -22,7 +22,6 @@ use Rattle.cli_call.specs.conflict-plan.Claims.{record_at}
 use Rattle.cli_call.specs.conflict-plan.Plan as planning
 use Rattle.cli_call.specs.conflict-plan.Plan.{change_of, mark_after, refusal_of, IsOrphan, IsUnshared}
 use Rattle.cli_call.specs.conflict-plan.Table.{changed_outcome, matches, outcome_by, path_outcome}
-use Rattle.cli_call.specs.job-targets.Agree.{IsOld}
 use Rattle.cli_call.specs.trove-stream.declared.parts.TroveParts.{TroveParts}
 use Rattle.cli_call.specs.trove-stream.Installed.{IsRising}
 use Rattle.dep_closure.specs.Closed.{IsClosed}

@@ -1,7 +1,6 @@
 pub mod Answering
 pub mod Verified
 pub mod VerifyEnds
-pub mod FoundByMap
 pub mod FullEnds
 pub mod TakingBack
 pub mod RollEnds

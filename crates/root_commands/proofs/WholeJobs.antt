@@ -1,13 +1,13 @@
 -- How a job with the contents of the repository behind it ends, on each state that has what was read when the disks were opened, and the
 -- contents that stand whole.
-use Rattle.std.proofs.Common.{◌≡◌, ◌≤◌, ℕ, List, Result, Ok, Err, refl, subst}
+use Rattle.std.proofs.Common.{◌≡◌, ℕ, List, Result, Ok, Err, refl, subst}
 use Rattle.std.specs.Prelude.{IsTrue, Option}
 use Rattle.cli_call.specs.cny-base.declared.options.Options.{Options}
 use Rattle.cli_call.specs.cny-base.declared.refusal.Refusal.{Refusal}
 use Rattle.cli_call.specs.cny-base.declared.stop.Stop.{Stop}
 use Rattle.cli_call.specs.change-set.declared.change.Carried.{Carried}
 use Rattle.cli_call.specs.content-store.Contents.{Answers}
-use Rattle.cli_call.specs.tree-disk.Disk.{DiskModel, HasRead, IsDisk}
+use Rattle.cli_call.specs.tree-disk.Disk.{DiskModel, IsDisk}
 use Rattle.cli_call.specs.trove-stream.declared.parts.TroveParts.{TroveParts}
 use Rattle.repo_index.specs.Catalogue.{CatalogueParts}
 use Rattle.repo_load.specs.Contents.{FindsContent}
@@ -22,8 +22,7 @@ use Rattle.cli_call.proofs.system-core.Managed.{KeepsOut}
 use Rattle.cny_report.specs.Jobs.{changes_text}
 use Rattle.cli_call.specs.Alone.{AnswersByContents, AnswersOpened}
 use Rattle.cli_call.specs.Command.{disks, AreReady, Disks}
-use Rattle.cli_call.specs.cny-laws.Call.{HasOpened, HasWholeContents}
-use Rattle.cli_call.specs.cny-laws.Report.{status_of}
+use Rattle.cli_call.specs.cny-laws.Call.{HasWholeContents}
 use Rattle.cli_call.specs.cny-laws.State.{Effect, Meaning, RootState, State}
 use Rattle.cli_call.specs.cny-laws.Stops.{root_failure, root_result}
 use Rattle.cli_call.specs.cny-laws.declared.failure.Failure.{Failure}

@@ -1,6 +1,6 @@
 //! The command that tells the jobs of the stack.
 ghost use Rattle.std.specs.Prelude.{List, ℕ, IfOk, IsTrue, OnOk};
-ghost use Rattle.cli_call.specs.Alone.{PerformsAlone};
+ghost use Rattle.cli_call.specs.Alone.{AnswersByRecords, PerformsAlone};
 ghost use Rattle.cli_call.specs.Command.{disks, AreReady, Performs};
 ghost use Rattle.cli_call.specs.tree-disk.Disk.{Reads};
 ghost use Rattle.root_commands.specs.Jobs as spec;
@@ -38,7 +38,9 @@ pub fn list_jobs<T: TreeDisk, P: TreeDisk>(
         (disks root.new repo.now opened.now) result }
     ensures alone { (input : List ℕ) → PerformsAlone T.disk P.disk spec.list_jobs input (disks root.old repo.now opened.now)
         (disks root.new repo.now opened.now) result }
-    // Also on a root that stores no system.
+    // Also on a root that stores no system: by the records that it holds, and neither done nor refused over a damaged one.
+    ensures by_records { (input : List ℕ) → AnswersByRecords T.disk P.disk spec.list_jobs input (disks root.old repo.now opened.now)
+        (disks root.new repo.now opened.now) result }
     ensures records { IsTrue T.disk.tells → ListsWhole (T.disk.reads root.old) opened.now.db result }
     // The root is only read.
     ensures root_read { Reads T.disk root.old root.new (Unit {0}) }

@@ -1,6 +1,7 @@
-use Rattle.std.proofs.Common.{inl, inr, refl}
+use Rattle.std.proofs.Common.{false, inl, inr, refl}
+use Rattle.std.proofs.lemmas.Bool.{false≢true}
 use Rattle.cli_call.specs.Alone.{ActsOnRepository, AnswersByContents}
-use Rattle.cli_call.proofs.OpenedEnds.{contents_more}
+use Rattle.cli_call.proofs.OpenedEnds.{contents_more, files_kept}
 use Rattle.cli_call.specs.Command.{disks}
 use Rattle.cli_call.proofs.CommandLaws.{acts_more}
 use Rattle.cli_call.specs.cny-laws.Failures.{failure_of_fault}
@@ -36,3 +37,11 @@ returns-clause-whole g c =
     let new = disks c.args.root.now c.commit_set.new.repo c.commit_set.new.opened in
     contents_more (commit_of c.in_ok-set.set) commit c.args.input.now c.args.input.now old new c.commit_set.result
     (λ s has outcome is. inl (record { set = c.in_ok-set.set; spelled = c.in_ok-set.ensures.value; is = is })) (c.commit_set.ensures.whole c.args.input.now)
+
+-- ---- what stays
+
+pub returns-in_err-set-clause-files : goal.returns-in_err-set-clause-files
+returns-in_err-set-clause-files g c = files_kept g.met.P.TreeDisk.laws c.args.opened.now.catalogue false c.args.repo.now
+
+pub returns-clause-files : goal.returns-clause-files
+returns-clause-files g c = c.commit_set.ensures.files false (λ is. absurd (false≢true is))

@@ -7,7 +7,7 @@ use Rattle.cli_call.specs.Command.{disks}
 use Rattle.cny_report.specs.Troves.{committed_text}
 use Rattle.repo_commands.specs.Commit.{commit_of}
 use Rattle.repo_commands.proofs.CommitEnds.{CommitLaws, Committing, commit_failed, commit_joined, commit_made, commit_rules, commit_told, commit_untold}
-use Rattle.repo_commands.proofs.CommitOpened.{contents_stay, failed_opened, failed_whole, named_stays, told_memory, told_opened, told_whole}
+use Rattle.repo_commands.proofs.CommitOpened.{failed_opened, failed_whole, files_stay, told_memory, told_opened, told_whole}
 use Rattle.cny_version.proofs.cny-base.Passing.{err_is}
 use Rattle.repo_commands.proofs.committing.commit_set.Goals as goal
 
@@ -67,15 +67,6 @@ returns-clause-opened g c told none input =
     told_opened g.met.T.TreeDisk.laws c.args.set.now input old new c.requires.ready refl c.commit.new.catalogue none c.commit.result (c.commit.ensures.ends told) c.in_ok-ids.ids (sym c.on_repository.ensures ∙ c.in_ok-ids.was)
     c.in_ok-committed_text.field-0 (c.in_ok-committed_text.ensures.value ∙ ap committed_text c.get.ensures)
 
-pub returns-in_err-ids-clause-stay : goal.returns-in_err-ids-clause-stay
-returns-in_err-ids-clause-stay g c none = contents_stay g.P.TreeDisk.disk c.args.set.now none c.requires.contents c.args.opened.now.catalogue c.args.repo.now c.commit.new.disk c.kept_files.ensures.contents c.commit.ensures.only
-
-pub returns-in_err-committed_text-clause-stay : goal.returns-in_err-committed_text-clause-stay
-returns-in_err-committed_text-clause-stay g c none = contents_stay g.P.TreeDisk.disk c.args.set.now none c.requires.contents c.args.opened.now.catalogue c.args.repo.now c.commit.new.disk c.kept_files.ensures.contents c.commit.ensures.only
-
-pub returns-clause-stay : goal.returns-clause-stay
-returns-clause-stay g c none = contents_stay g.P.TreeDisk.disk c.args.set.now none c.requires.contents c.args.opened.now.catalogue c.args.repo.now c.commit.new.disk c.kept_files.ensures.contents c.commit.ensures.only
-
 -- ---- by the catalogue and the contents that stand whole
 
 pub returns-in_err-ids-clause-whole : goal.returns-in_err-ids-clause-whole
@@ -99,11 +90,13 @@ returns-clause-whole g c input =
     told_whole g.met.T.TreeDisk.laws c.args.set.now input old new c.requires.ready refl c.commit.new.catalogue c.commit.result c.commit.ensures.ends c.commit.ensures.sound c.in_ok-ids.ids (sym c.on_repository.ensures ∙ c.in_ok-ids.was)
     c.in_ok-committed_text.field-0 (c.in_ok-committed_text.ensures.value ∙ ap committed_text c.get.ensures)
 
-pub returns-in_err-ids-clause-named : goal.returns-in_err-ids-clause-named
-returns-in_err-ids-clause-named g c = named_stays g.P.TreeDisk.disk c.args.set.now c.requires.contents c.args.opened.now.catalogue c.args.repo.now c.commit.new.disk c.kept_files.ensures.contents c.commit.ensures.only
+-- ---- what stays
 
-pub returns-in_err-committed_text-clause-named : goal.returns-in_err-committed_text-clause-named
-returns-in_err-committed_text-clause-named g c = named_stays g.P.TreeDisk.disk c.args.set.now c.requires.contents c.args.opened.now.catalogue c.args.repo.now c.commit.new.disk c.kept_files.ensures.contents c.commit.ensures.only
+pub returns-in_err-ids-clause-files : goal.returns-in_err-ids-clause-files
+returns-in_err-ids-clause-files g c = files_stay g.P.TreeDisk.disk c.args.set.now c.requires.contents c.args.opened.now.catalogue c.requires.ready.rules c.args.repo.now c.commit.new.disk c.kept_files.ensures.commits c.kept_files.ensures.contents c.commit.ensures.only
 
-pub returns-clause-named : goal.returns-clause-named
-returns-clause-named g c = named_stays g.P.TreeDisk.disk c.args.set.now c.requires.contents c.args.opened.now.catalogue c.args.repo.now c.commit.new.disk c.kept_files.ensures.contents c.commit.ensures.only
+pub returns-in_err-committed_text-clause-files : goal.returns-in_err-committed_text-clause-files
+returns-in_err-committed_text-clause-files g c = files_stay g.P.TreeDisk.disk c.args.set.now c.requires.contents c.args.opened.now.catalogue c.requires.ready.rules c.args.repo.now c.commit.new.disk c.kept_files.ensures.commits c.kept_files.ensures.contents c.commit.ensures.only
+
+pub returns-clause-files : goal.returns-clause-files
+returns-clause-files g c = files_stay g.P.TreeDisk.disk c.args.set.now c.requires.contents c.args.opened.now.catalogue c.requires.ready.rules c.args.repo.now c.commit.new.disk c.kept_files.ensures.commits c.kept_files.ensures.contents c.commit.ensures.only

@@ -1,6 +1,9 @@
+use Rattle.std.proofs.Common.{false}
+use Rattle.std.proofs.lemmas.Bool.{false≢true}
 use Rattle.cli_call.specs.Alone.{ActsOnRepository, AnswersByContents}
 use Rattle.cli_call.specs.Command.{disks}
 use Rattle.cli_call.specs.cny-laws.Failures.{failure_of_fault}
+use Rattle.cli_call.proofs.OpenedEnds.{files_kept}
 use Rattle.repo_commands.specs.Cook.{cook}
 use Rattle.repo_commands.proofs.CookEnds.{cooked, cooked_whole, no_set, no_set_whole, not_read, not_read_whole}
 use Rattle.repo_commands.proofs.MadeVersions.{made_have_one}
@@ -47,3 +50,14 @@ returns-clause-whole g c =
     let new = disks c.args.root.now c.commit_set.new.repo c.commit_set.new.opened in
     cooked_whole g.met.T.TreeDisk.laws c.args.next c.args.input.now old c.requires c.in_ok-made.made c.in_ok-made.ensures.value
     c.in_ok-set.set c.in_ok-set.ensures.value new c.commit_set.result (c.commit_set.ensures.whole c.args.input.now)
+
+-- ---- what stays
+
+pub returns-in_err-made-clause-files : goal.returns-in_err-made-clause-files
+returns-in_err-made-clause-files g c = files_kept g.met.P.TreeDisk.laws c.args.opened.now.catalogue false c.args.repo.now
+
+pub returns-in_err-set-clause-files : goal.returns-in_err-set-clause-files
+returns-in_err-set-clause-files g c = files_kept g.met.P.TreeDisk.laws c.args.opened.now.catalogue false c.args.repo.now
+
+pub returns-clause-files : goal.returns-clause-files
+returns-clause-files g c = c.commit_set.ensures.files false (λ is. absurd (false≢true is))

@@ -1,4 +1,4 @@
-use Rattle.std.proofs.Common.{refl, sym, subst, ◌∙◌}
+use Rattle.std.proofs.Common.{true, sym, subst, ◌∙◌}
 use Rattle.cli_call.specs.change-set.ChangeSet.{HasContents}
 use Rattle.cli_call.specs.change-set.declared.change.ChangeSet.{ChangeSet}
 use Rattle.cli_call.proofs.CommandLaws.{acts_performed}
@@ -9,7 +9,7 @@ use Rattle.cli_call.specs.cny-laws.Failures.{failure_of_fault}
 use Rattle.repo_commands.specs.Commit.{commit_of}
 use Rattle.repo_commands.specs.Moving.{move}
 use Rattle.repo_commands.proofs.CommittedTroves.{refer_within}
-use Rattle.cli_call.proofs.OpenedEnds.{memory_opened}
+use Rattle.cli_call.proofs.OpenedEnds.{files_kept, memory_opened}
 use Rattle.cli_call.proofs.ReadingEnds.{config_made, config_stopped, config_stopped_opened, ready_on}
 use Rattle.repo_commands.proofs.MovingEnds.{committed_opened, meant_fails, meant_opened, memory_ends, moved_ends, moved_fails, moved_opened, no_contents, refused_config, set_is, unmoved}
 use Rattle.cny_version.proofs.cny-base.Passing.{err_is}
@@ -139,18 +139,19 @@ returns-in_err-set-clause-root_read g c = c.read_config.ensures.same
 pub returns-clause-root_read : goal.returns-clause-root_read
 returns-clause-root_read g c = c.read_config.ensures.same
 
--- and no content
-pub returns-in_err-config-clause-contents : goal.returns-in_err-config-clause-contents
-returns-in_err-config-clause-contents g c = λ told name of_content. refl
+-- ---- what stays
 
-pub returns-in_err-id-clause-contents : goal.returns-in_err-id-clause-contents
-returns-in_err-id-clause-contents g c = λ told name of_content. refl
+pub returns-in_err-config-clause-files : goal.returns-in_err-config-clause-files
+returns-in_err-config-clause-files g c = files_kept g.met.P.TreeDisk.laws c.args.opened.now.catalogue true c.args.repo.now
 
-pub returns-in_err-troves-clause-contents : goal.returns-in_err-troves-clause-contents
-returns-in_err-troves-clause-contents g c = λ told name of_content. refl
+pub returns-in_err-id-clause-files : goal.returns-in_err-id-clause-files
+returns-in_err-id-clause-files g c = files_kept g.met.P.TreeDisk.laws c.args.opened.now.catalogue true c.args.repo.now
 
-pub returns-in_err-set-clause-contents : goal.returns-in_err-set-clause-contents
-returns-in_err-set-clause-contents g c = λ told name of_content. refl
+pub returns-in_err-troves-clause-files : goal.returns-in_err-troves-clause-files
+returns-in_err-troves-clause-files g c = files_kept g.met.P.TreeDisk.laws c.args.opened.now.catalogue true c.args.repo.now
 
-pub returns-clause-contents : goal.returns-clause-contents
-returns-clause-contents g c = c.commit_set.ensures.stay c.in_ok-set.ensures.contents
+pub returns-in_err-set-clause-files : goal.returns-in_err-set-clause-files
+returns-in_err-set-clause-files g c = files_kept g.met.P.TreeDisk.laws c.args.opened.now.catalogue true c.args.repo.now
+
+pub returns-clause-files : goal.returns-clause-files
+returns-clause-files g c = c.commit_set.ensures.files true (λ is. c.in_ok-set.ensures.contents)

@@ -1,10 +1,10 @@
-use Rattle.std.proofs.Common.{ℕ, List, Result, Ok, Err, IfOk, sym, ◌∙◌, subst}
+use Rattle.std.proofs.Common.{ℕ, List, Result, Ok, Err, IfOk, inl, refl, sym, ◌∙◌, subst}
 use Rattle.cli_call.specs.cny-base.Count.{Rose}
 use Rattle.cli_call.specs.cny-base.declared.stop.Stop.{Stop}
 use Rattle.rollback_stack.specs.declared.undo.NotedJob.{NotedJob}
 use Rattle.rollback_stack.specs.Numbers.{job_count}
 use Rattle.rollback_stack.specs.Reading.{AreNotes}
-use Rattle.cli_call.specs.Alone.{PerformsAlone}
+use Rattle.cli_call.specs.Alone.{AnswersByRecords, PerformsAlone}
 use Rattle.cli_call.specs.Command.{disks, Performs}
 use Rattle.cli_call.proofs.ReadingEnds.{ready_on}
 use Rattle.cli_call.proofs.ReadingRoot.{read_alone, read_performed}
@@ -12,7 +12,7 @@ use Rattle.cli_call.specs.cny-laws.declared.failure.Failure.TheVariants as failu
 use Rattle.root_commands.specs.Jobs as spec
 use Rattle.root_commands.specs.Noting.{AreToldBy}
 use Rattle.root_commands.specs.Records.{ListsWhole}
-use Rattle.root_commands.proofs.JobEnds.{failed_ends, found_ends, read_of}
+use Rattle.root_commands.proofs.JobEnds.{failed_by, failed_ends, found_by, found_ends, read_of}
 use Rattle.cli_call.proofs.RootResults.{root_ok}
 use Rattle.root_commands.proofs.RecordEnds.{list_failed, told_whole}
 use Rattle.local_db.proofs.cny-base.Passing.{err_is}
@@ -105,6 +105,29 @@ returns-clause-records g c told =
     let is = root_ok c.all.result c.in_ok-jobs.jobs (sym c.on_root.ensures ∙ c.in_ok-jobs.was) in
     told_whole c.one_record.ensures.one (disk.reads root) db c.in_ok-jobs.jobs
     (subst (λ (r : Result (List NotedJob) Stop). IfOk r (AreNotes (disk.reads root) (job_count db.oldest db.newest) db.newest db.installed)) is (c.all.ensures.value told).answer)
+
+-- by the records
+pub returns-in_err-jobs-clause-by_records : goal.returns-in_err-jobs-clause-by_records
+returns-in_err-jobs-clause-by_records g c input =
+    let old = disks c.args.root.now c.args.repo.now c.args.opened.now in
+    let new = disks c.all.new.disk c.args.repo.now c.args.opened.now in
+    err_is (AnswersByRecords g.T.TreeDisk.disk g.P.TreeDisk.disk spec.list_jobs input old new) c.from_residual.result c.in_err-jobs.field-0.0 c.from_residual.ensures.1
+    (failed_by g.T.TreeDisk.disk g.P.TreeDisk.disk c.one_record.ensures.one input c.args.root.now c.all.new.disk c.args.repo.now c.args.opened.now c.all.result c.in_err-jobs.field-0.0 (sym c.on_root.ensures ∙ c.in_err-jobs.was) c.all.ensures.stops)
+
+pub returns-in_err-told-clause-by_records : goal.returns-in_err-told-clause-by_records
+returns-in_err-told-clause-by_records g c input =
+    let old = disks c.args.root.now c.args.repo.now c.args.opened.now in
+    let new = disks c.all.new.disk c.args.repo.now c.args.opened.now in
+    err_is (AnswersByRecords g.T.TreeDisk.disk g.P.TreeDisk.disk spec.list_jobs input old new) c.from_residual-in_err-told.result failure.Memory c.from_residual-in_err-told.ensures.1 (λ told s has records. inl refl)
+
+pub returns-clause-by_records : goal.returns-clause-by_records
+returns-clause-by_records g c input =
+    let disk = g.T.TreeDisk.disk in
+    let opened = c.args.opened.now in
+    let is = root_ok c.all.result c.in_ok-jobs.jobs (sym c.on_root.ensures ∙ c.in_ok-jobs.was) in
+    found_by disk g.P.TreeDisk.disk c.one_record.ensures.one input c.args.root.now c.all.new.disk c.args.repo.now opened c.in_ok-jobs.jobs c.in_ok-told.field-0
+    (λ told. subst (λ (r : Result (List NotedJob) Stop). IfOk r (AreNotes (disk.reads c.args.root.now) (job_count opened.db.oldest opened.db.newest) opened.db.newest opened.db.installed)) is (c.all.ensures.value told).answer)
+    (subst (λ (l : List NotedJob). AreToldBy l c.in_ok-told.field-0) c.get.ensures c.in_ok-told.ensures)
 
 pub returns-clause-again : goal.returns-clause-again
 returns-clause-again g c =
