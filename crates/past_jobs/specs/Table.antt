@@ -1,5 +1,5 @@
 -- What the ordered maps of a list that is taken back hold.
-use Rattle.std.specs.Prelude.{◌≡◌, ◌⊎◌, ℕ, ◌+◌, Bool, true, false, ◌&&◌, List, [], ◌∷◌, ◌++◌, map, length, Option, Some, None, is_some, IsSome, All}
+use Rattle.std.specs.Prelude.{◌≡◌, ◌⊎◌, ℕ, ◌+◌, Bool, true, false, ◌&&◌, List, [], ◌∷◌, ◌++◌, map, length, Option, Some, None, is_some, IsSome, All, if◌then◌else◌}
 use Rattle.std.specs.BTreeMap.{BTreeMap, IsOrdered, get}
 use Rattle.std.specs.Cmp.Lexicographic.{slice_cmp}
 use Rattle.std.specs.List.{sum_by}
@@ -8,7 +8,7 @@ use Rattle.std.specs.Ordering.{nat_cmp, is_gt}
 use Rattle.local_db.specs.cny-stream.declared.record.FileRec.{FileRec}
 use Rattle.local_db.specs.cny-stream.Record as rec
 use Rattle.local_db.specs.trove-stream.declared.parts.TroveParts.{TroveParts}
-use Rattle.local_db.specs.tree-disk.Tree.{Name}
+use Rattle.local_db.specs.tree-disk.Tree.{Name, same_name}
 use Rattle.tree_scan.specs.declared.mark.Mark.{Mark}
 use Rattle.tree_scan.specs.Marks as marks
 use Rattle.local_db.specs.trove-stream.Installed.{trove_of}
@@ -21,13 +21,11 @@ use Rattle.local_db.specs.Record.{delta_at, TakesBackAt}
 use Rattle.local_db.specs.trove-parts.declared.id.TroveId.{TroveId}
 use Rattle.local_db.specs.declared.record.Delta.{Delta}
 use Rattle.local_db.specs.RecordText.{delta_of, name_of}
+use Rattle.past_jobs.specs.declared.past_marks.Recorder.{Recorder}
+use Rattle.past_jobs.specs.declared.past_marks.Recorders.{Recorders}
 pub use Rattle.change_rel.specs.trove-stream.Either.{or_else}
 
 -- ---- fingerprints
-
--- the fingerprints that troves record at one path, by the names of the troves
-abbrev pub Recorders : Type 0
-Recorders = BTreeMap Name Mark
 
 -- by the paths
 abbrev pub Marks : Type 0
@@ -36,19 +34,28 @@ Marks = BTreeMap Name Recorders
 abbrev pub recorders_at : Marks → Name → Option Recorders
 recorders_at m path = get (slice_cmp nat_cmp) m path
 
+-- the fingerprint of the trove of a name: that of the one, if it has the name, and else what the others have
+abbrev pub mark_beside : Option Recorder → Option Mark → Name → Option Mark
+mark_beside None other name = other
+mark_beside (Some one) other name = if same_name one.name name then Some one.mark else other
+
 abbrev pub mark_in : Option Recorders → Name → Option Mark
 mark_in None name = None
-mark_in (Some recorders) name = get (slice_cmp nat_cmp) recorders name
+mark_in (Some recorders) name = mark_beside recorders.one (get (slice_cmp nat_cmp) recorders.others name) name
 
 -- the fingerprint of this trove at this path
 abbrev pub mark_at : Marks → Name → Name → Option Mark
 mark_at m path name = mark_in (recorders_at m path) name
 
--- of the troves at the path, this is the fingerprint of the first by name
-pub record IsFirst (m : Marks) (path : Name) (mark : Mark) : Type 0 where
+-- of the fingerprints by the names of troves, this is that of the first by name
+pub record IsFirstOf (marks : Name → Option Mark) (mark : Mark) : Type 0 where
   pub name : Name
-  pub there : mark_at m path name ≡ Some mark
-  pub least : (other : Name) → IsSome (mark_at m path other) → is_gt (slice_cmp nat_cmp name other) ≡ false
+  pub there : marks name ≡ Some mark
+  pub least : (other : Name) → IsSome (marks other) → is_gt (slice_cmp nat_cmp name other) ≡ false
+
+-- of the troves at the path, this is the fingerprint of the first by name
+abbrev pub IsFirst : Marks → Name → Mark → Type 0
+IsFirst m path mark = IsFirstOf (mark_at m path) mark
 
 -- what a trove records at a path
 abbrev pub mark_of : Option TroveParts → Name → Option Mark

@@ -4,6 +4,6 @@ use Rattle.past_jobs.proofs.past_marks.add_mark.Goals as goal
 
 pub returns : goal.returns
 returns c =
-    marked_after c.args.marks.now c.take_recorders-recorders.new.marks c.insert-2.new.self c.take_recorders-recorders.result c.insert.new.self
-    c.args.path.now c.args.name.now c.in_ok-copy-2.field-0 c.in_ok-copy.field-0 (Some c.args.mark) c.in_ok-copy-2.ensures c.in_ok-copy.ensures
-    c.take_recorders-recorders.ensures.taken c.take_recorders-recorders.ensures.kept c.in_ok-insert.ensures.updates.0 c.in_ok-insert-2.ensures.updates.0
+    marked_after c.args.marks.now c.take_recorders-recorders.new.marks c.insert.new.self c.take_recorders-recorders.result c.in_ok-more.more
+    c.args.path.now c.args.name.now c.in_ok-copy.field-0 (Some c.args.mark) c.in_ok-copy.ensures
+    c.take_recorders-recorders.ensures.taken c.take_recorders-recorders.ensures.kept c.in_ok-more.ensures c.in_ok-insert.ensures.updates.0
