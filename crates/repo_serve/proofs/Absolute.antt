@@ -1,40 +1,29 @@
 -- The change set that leads from no troves to those that are sent.
-use Rattle.std.proofs.Common.{◌≡◌, ⊎_elim, inl, inr, ◌⊎◌, ℕ, ◌≤◌, Bool, true, false, ◌&&◌, List, [], ◌∷◌, ◌++◌, length, map, Contains, Some, None, refl, sym, ap, ◌∙◌, subst, arith}
-use Rattle.std.specs.Prelude.{◌↔◌, ◌==◌, nat_lt, if◌then◌else◌}
+use Rattle.std.proofs.Common.{◌≡◌, ⊎_elim, inl, inr, ◌⊎◌, ℕ, Bool, true, false, ◌&&◌, List, [], ◌∷◌, ◌++◌, length, map, All, Contains, Some, refl, sym, subst}
+use Rattle.std.specs.Prelude.{◌↔◌, ◌==◌}
 use Rattle.std.specs.Str.{bytes_eq}
-use Rattle.std.proofs.lemmas.Bool.{le-ltb}
 use Rattle.std.proofs.lemmas.List.Elements.{All-contains}
 use Rattle.std.proofs.lemmas.Slice.Eq.{bytes_eq-Decides}
-use Rattle.cny_stream.specs.Item.{item_bytes}
-use Rattle.repo_load.specs.cny-base.declared.limits.TheConstants.{CHANGE_SET_LIMIT, MESSAGE_LIMIT, PARTS_LIMIT}
-use Rattle.repo_load.specs.cny-base.declared.refusal.Refusal.TheVariants.{TooLarge}
-use Rattle.repo_load.specs.cny-base.declared.refusal.What.TheVariants as what
 use Rattle.repo_load.specs.cny-stream.Record.{has_name_and_size}
 use Rattle.repo_load.specs.cny-stream.declared.record.FileRec.{FileRec}
 use Rattle.repo_load.specs.cny-stream.declared.record.FileRec.TheVariants.{Dir, File, Link}
 use Rattle.repo_load.specs.trove-parts.declared.files.FileAt.{FileAt}
 use Rattle.repo_load.specs.trove-stream.declared.parts.TroveParts.{TroveParts}
 use Rattle.repo_load.specs.trove-stream.FilesOf.{files_of}
-use Rattle.repo_load.specs.trove-stream.Installed.{by_name, IsRising}
-use Rattle.repo_load.specs.tree-disk.Tree.{Tree}
 use Rattle.repo_load.proofs.cny-base.Below.{test_equal}
-use Rattle.repo_load.proofs.cny-base.Lists.{contains_cases, contains_first, contains_rest, length-map, nothing_in, one_passes}
+use Rattle.repo_load.proofs.cny-base.Lists.{contains_cases, contains_first, contains_rest, nothing_in, one_passes}
 use Rattle.repo_load.proofs.cny-base.Recorded.{any_of}
-use Rattle.repo_load.proofs.cny-base.Sorted.{rising_nil}
 use Rattle.repo_index.specs.Catalogue.{is_content, is_file_of}
-use Rattle.repository.specs.change-set.ChangeSet.{change_bytes, HasContents, IsContentOf}
-use Rattle.repository.specs.change-set.TooLarge.{too_large}
+use Rattle.repository.specs.change-set.ChangeSet.{change_bytes}
 use Rattle.repository.specs.change-set.declared.change.Carried.{Carried}
 use Rattle.repository.specs.change-set.declared.change.ChangeSet.{ChangeSet}
 use Rattle.repository.specs.change-set.declared.change.Part.{Part}
 use Rattle.repository.specs.change-set.declared.change.Part.TheVariants.{Whole}
-use Rattle.repository.specs.Between.{ArePartsBetween, HasStored, IsSoundContent, LeadsBetween, RecordsContent, SendsContent}
+use Rattle.repository.specs.Between.{ArePartsBetween, IsSoundContent, LeadsBetween, RecordsContent, SendsContent}
+use Rattle.repository.specs.BetweenSteps.{IsHashed}
 use Rattle.repository.proofs.Members.{named_record}
 use Rattle.repo_mirror.specs.Absolute.{IsAbsoluteSet}
 use Rattle.repo_mirror.specs.Lengths.{set_length}
-use Rattle.repo_mirror.specs.Missing.{too_much}
-use Rattle.repo_mirror.proofs.Lengthening.{room_of, HaveRoom}
-use Rattle.repo_serve.specs.Steps.{IsSetOf}
 
 -- the laws that are called upon
 abbrev pub WholeParts : Type 0
@@ -120,7 +109,7 @@ module _ (troves : List TroveParts) (t : TroveParts) (file : FileAt) (there : Co
 
 -- ---- the set
 
-module _ (whole_parts : WholeParts) (all_sent : AllSent) (troves : List TroveParts) (set : ChangeSet) (leads : LeadsBetween [] troves set) (has : HasContents set) where
+module _ (whole_parts : WholeParts) (all_sent : AllSent) (troves : List TroveParts) (set : ChangeSet) (leads : LeadsBetween [] troves set) (hashed : All IsHashed set.contents) where
   pub absolute_of : IsAbsoluteSet troves set
   absolute_of = record {
     parts = whole_parts troves set.parts leads.parts;
@@ -132,42 +121,9 @@ module _ (whole_parts : WholeParts) (all_sent : AllSent) (troves : List TrovePar
           let there = trove_of_file troves one.0 one.1 in
           (leads.contents.each name).1 ((all_sent troves name).1 (named_content troves there.0 one.0 there.1 there.2 name one.2))),
     );
-    twenty = λ content among. (All-contains (IsContentOf set.parts) set.contents content has.contents among).twenty;
+    twenty = λ content among. (All-contains IsHashed set.contents content hashed among).twenty;
     sized = λ content file size among in_files is.
         let there = trove_of_file troves file in_files in
         (All-contains (λ (c : Carried). IsSoundContent troves c.name c.bytes) set.contents content leads.contents.sound among).sized size
         (sized_content troves there.0 file there.1 there.2 content.name size is);
   }
-
-  module _ (set_long : SetLength) (small : too_much troves ≡ None) where
-    pub long : length (change_bytes set) ≡ set_length troves
-    long = set_long troves set absolute_of
-
-    room : HaveRoom troves
-    room = room_of troves small
-
-    few : length set.parts ≤ PARTS_LIMIT
-    few = omega (arith, room.few, ap (λ (l : List Part). length l) absolute_of.parts, length-map Whole troves)
-
-    short : length (change_bytes set) ≤ CHANGE_SET_LIMIT
-    short = omega (arith, room.short, long)
-
-    pub not_too_large : too_large set ≡ None
-    not_too_large = within (nat_lt PARTS_LIMIT (length set.parts)) (nat_lt CHANGE_SET_LIMIT (length (change_bytes set))) (le-ltb PARTS_LIMIT (length set.parts) few) (le-ltb CHANGE_SET_LIMIT (length (change_bytes set)) short)
-      where
-        within : (many long : Bool) → many ≡ false → long ≡ false
-            → (if many then Some (TooLarge what.ChangeSet (length set.parts)) else if long then Some (TooLarge what.ChangeSet (length (change_bytes set))) else None) ≡ None
-        within true long a b = absurd (cc a)
-        within false true a b = absurd (cc b)
-        within false false a b = refl
-
-    pub short_stream : (stream : List ℕ) → stream ≡ change_bytes set → length stream ≤ MESSAGE_LIMIT
-    short_stream stream is = omega (arith, room.short, long, ap (λ (l : List ℕ). length l) is)
-
-  -- the item of it
-  pub sent_set : (tree : Tree) → HasStored tree set → (reply stream : List ℕ) → stream ≡ change_bytes set → reply ≡ item_bytes 0x84 stream → IsSetOf troves tree reply
-  sent_set tree stored reply stream is reply_is = record { set = set; sent = absolute_of; leads = leads; stored = stored; is = reply_is ∙ ap (item_bytes 0x84) is }
-
--- no troves rise
-pub no_old : IsRising []
-no_old = rising_nil by_name

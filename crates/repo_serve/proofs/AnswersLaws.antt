@@ -1,6 +1,5 @@
 -- How runs that only read, and may be refused, follow one another.
 use Rattle.std.proofs.Common.{◌≡◌, ℕ, ◌≤◌, Bool, IsTrue, Result, Ok, Err, IsErrAnd, sym, subst, arith}
-use Rattle.std.specs.Prelude.{IfOk}
 use Rattle.repo_load.specs.cny-base.Stop.{stop_of_fault}
 use Rattle.repo_load.specs.cny-base.declared.refusal.Fault.{Fault}
 use Rattle.repo_load.specs.cny-base.declared.refusal.Fault.TheVariants as fault
@@ -62,16 +61,6 @@ ends_fault {Z = Z} told T U V e (Err s) a c is refused = subst (λ x. AnswerEnds
     by (fault.Refused refusal) refused = λ tells. refused tells refusal (λ i. fault.Refused refusal)
     by fault.Memory refused = tt
 
--- an end with what is known of the value
-ends_and : {X : Type 0} (told : Bool) (P A : X → Type 0) (R : Refusal → Type 0) (Q : Name → Type 0) (r : Result X Stop) (a c : ℕ) → IfOk r A → AnswerEnds told P R Q r a c → AnswerEnds told (λ (x : X). P x × A x) R Q r a c
-ends_and told P A R Q (Ok x) a c also ends = λ tells. (ends tells, also)
-ends_and told P A R Q (Err (Refused refusal)) a c also ends = ends
-ends_and told P A R Q (Err (Damaged path)) a c also ends = ends
-ends_and told P A R Q (Err Failed) a c also ends = ends
-ends_and told P A R Q (Err Memory) a c also ends = ends
-ends_and told P A R Q (Err FarFailed) a c also ends = ends
-ends_and told P A R Q (Err (FarDamaged path)) a c also ends = ends
-
 module _ {D : Type 0} {disk : DiskModel D} where
   -- a run that is never refused
   pub answers_of_looks : {X : Type 0} {P T : Tree → X → Type 0} {U : Tree → Refusal → Type 0} {Q V : Tree → Name → Type 0} {old new : D} {r : Result X Stop}
@@ -95,15 +84,6 @@ module _ {D : Type 0} {disk : DiskModel D} where
     later = run.later;
     same = run.same;
     ends = ends_stop disk.tells (P (disk.reads old)) (T (disk.reads old)) (R (disk.reads old)) (U (disk.reads old)) (Q (disk.reads old)) (V (disk.reads old)) e r _ _ is refused damage run.ends;
-  }
-
-  -- with what is known of the value, whatever the disk tells
-  pub answers_and : {X : Type 0} {P : Tree → X → Type 0} {R : Tree → Refusal → Type 0} {Q : Tree → Name → Type 0} {old new : D} {r : Result X Stop} {A : X → Type 0} → Answers disk P R Q old new r → IfOk r A
-      → Answers disk (λ (tree : Tree) (x : X). P tree x × A x) R Q old new r
-  answers_and {X = X} {P = P} {R = R} {Q = Q} {old = old} {new = new} {r = r} {A = A} run also = record {
-    later = run.later;
-    same = run.same;
-    ends = ends_and disk.tells (P (disk.reads old)) A (R (disk.reads old)) (Q (disk.reads old)) r _ _ also run.ends;
   }
 
   -- what is answered, by another term

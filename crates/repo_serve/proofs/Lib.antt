@@ -1,5 +1,7 @@
 mod AnswersLaws
 mod Absolute
+mod Wanting
+mod PutSets
 mod PlacedIds
 mod StoredReplies
 mod NextItems

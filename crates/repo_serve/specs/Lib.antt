@@ -4,5 +4,6 @@ pub mod Answers
 pub mod Serving
 pub mod Room
 pub mod Steps
+pub mod Wanted
 pub mod Halts
 pub mod Sessions

@@ -18,6 +18,7 @@ use Rattle.repo_load.specs.Files.{HoldsCommits, StoresRepository}
 use Rattle.repo_load.specs.State.{Commit, RepositoryState}
 use Rattle.repository.specs.Between.{HasStored, LeadsBetween}
 use Rattle.repo_mirror.specs.Absolute.{IsAbsoluteSet}
+use Rattle.repo_mirror.specs.Lengths.{set_length}
 use Rattle.repo_serve.specs.Reply.{IsReplyTo}
 use Rattle.repo_serve.specs.Replies.{AreReplies, GoesOn, IsRefusedNext, IsUnanswered}
 use Rattle.repo_serve.specs.Serving.{IsDamagedFor, IsRecordedLength, IsRecordedSum}
@@ -34,6 +35,13 @@ pub record IsReplyOf (request : Request) (tree : Tree) (reply : List ℕ) : Type
 abbrev pub IsUnansweredOf : Request → ℕ → Tree → Refusal → Type 0
 IsUnansweredOf request sent tree refusal = (r : RepositoryState) → StoresRepository tree r → IsUnanswered r request sent refusal
 
+-- That reply stands behind what was there, and the stream of replies, which had so many bytes with its end, has so many with it.
+pub record HasReplied (request : Request) (sent : ℕ) (tree : Tree) (old new : List ℕ) (to : ℕ) : Type 0 where
+  pub reply : List ℕ
+  pub reply_is : IsReplyOf request tree reply
+  pub put : new ≡ old ++ reply
+  pub to_is : to ≡ sent + length reply
+
 -- the item of the absolute change set of these troves, with the contents that stand in the tree
 pub record IsSetOf (troves : List TroveParts) (tree : Tree) (reply : List ℕ) : Type 0 where
   pub set : ChangeSet
@@ -41,6 +49,13 @@ pub record IsSetOf (troves : List TroveParts) (tree : Tree) (reply : List ℕ) :
   pub leads : LeadsBetween [] troves set
   pub stored : HasStored tree set
   pub is : reply ≡ item_bytes 0x84 (change_bytes set)
+
+-- that item stands behind what was there, and has the length that the records tell
+pub record HasPutReply (troves : List TroveParts) (tree : Tree) (old new : List ℕ) : Type 0 where
+  pub reply : List ℕ
+  pub is : IsSetOf troves tree reply
+  pub long : length reply ≡ 5 + set_length troves
+  pub put : new ≡ old ++ reply
 
 -- ---- the next item, behind so many requests
 

@@ -1,15 +1,15 @@
 //! Requests are answered, one behind the other.
-ghost use Rattle.std.specs.Prelude.{◌≡◌, ◌<◌, ◌≤◌, ◌++◌, IfErr, IfOk, IfSome, IsTrue, MatchOption, OnOk, length};
+ghost use Rattle.std.specs.Prelude.{◌≡◌, ◌+◌, ◌<◌, ◌≤◌, IfErr, IfOk, IfSome, IsTrue, MatchOption, OnOk, length};
 ghost use Rattle.repo_load.specs.Files.{HoldsCatalogue};
 ghost use Rattle.repo_mirror.specs.declared.request.TheConstants.{REQUESTS_LIMIT};
 ghost use Rattle.repo_serve.specs.Answers.{Answers};
-ghost use Rattle.repo_serve.specs.Steps.{AnswersAll, AnswersOne, Decides, HasMoved, IsDamagedBehind, IsDamagedNext, IsDecided, IsFaultOrMemory, IsNext, IsOver, IsWithin};
+ghost use Rattle.repo_serve.specs.Steps.{AnswersAll, AnswersOne, Decides, IsDamagedBehind, IsDamagedNext, IsDecided, IsFaultOrMemory, IsNext, IsOver, IsWithin};
 
 use crate::reading::{Next, next_request};
-use crate::replying::reply_to;
+use crate::replying::put_reply;
 use crate::room::sum_of;
 use repo_index::Catalogue;
-use repo_load::cny_base::{Bytes, Fault, OutOfMemory, Refusal, Stop, TextFault};
+use repo_load::cny_base::{Bytes, Fault, Refusal, Stop, TextFault};
 use repo_load::tree_disk::TreeDisk;
 use std::alloc::Global;
 
@@ -52,24 +52,16 @@ fn next_in(alloc: Global, bytes: &[u8], answered: &Answered) -> Result<Option<Ne
     }
 }
 
-// One more request was answered: its item has so many bytes, and this is the reply.
-fn push_reply(
-    answered: &mut Answered,
-    out: &mut Bytes,
-    to: usize,
-    reply: &Bytes,
-) -> Result<(), OutOfMemory>
+// One more request was answered: up to where its item ends, and how long the stream of replies is with its reply.
+fn move_on(answered: &mut Answered, at: u64, sent: u64)
     requires { answered.old.number < REQUESTS_LIMIT }
-    ensures moved { OnOk result (HasMoved answered.old answered.new to (length reply.now)) }
-    ensures put { OnOk result (out.new ≡ out.old ++ reply.now) }
+    ensures number { answered.new.number ≡ answered.old.number + 1 }
+    ensures at { answered.new.at ≡ at }
+    ensures sent { answered.new.sent ≡ sent }
 {
-    let at = sum_of(answered.at, to as u64)?;
-    let sent = sum_of(answered.sent, reply.get().len() as u64)?;
-    out.push_slice(reply.get())?;
     answered.number += 1;
     answered.at = at;
     answered.sent = sent;
-    Ok(())
 }
 
 // Answers the next request, and tells where its item ends; or that there is none.
@@ -92,8 +84,9 @@ fn answer_one<D: TreeDisk>(
     let Some(next) = next_in(alloc, bytes, answered)? else {
         return Ok(None);
     };
-    let reply = reply_to(alloc, disk, catalogue, &next.request, answered.sent)?;
-    push_reply(answered, out, next.to, &reply)?;
+    let at = sum_of(answered.at, next.to as u64)?;
+    let sent = put_reply(alloc, disk, catalogue, &next.request, answered.sent, out)?;
+    move_on(answered, at, sent);
     Ok(Some(next.to))
 }
 

@@ -8,7 +8,7 @@ ghost use Rattle.repo_mirror.specs.declared.request.Request.TheVariants.{Content
 ghost use Rattle.repo_serve.specs.Answers.{Answers};
 ghost use Rattle.repo_serve.specs.Reply.{content_reply};
 ghost use Rattle.repo_serve.specs.Serving.{IsDamagedFor};
-ghost use Rattle.repo_serve.specs.Steps.{IsReplyOf, IsUnansweredOf};
+ghost use Rattle.repo_serve.specs.Steps.{HasReplied, IsUnansweredOf};
 
 use crate::room::{sum_of, with_reply};
 use cny_stream::{close_item, open_item, put_item};
@@ -46,27 +46,30 @@ fn put_named(out: &mut Bytes, name: &[u8; 20], bytes: &Bytes) -> Result<(), OutO
     Ok(())
 }
 
-// Appends the item of a content.
-fn put_content(out: &mut Bytes, name: &[u8; 20], bytes: &Bytes) -> Result<(), OutOfMemory>
+/// Appends the item of a content under this tag.
+pub(crate) fn put_content(
+    out: &mut Bytes,
+    tag: u8,
+    name: &[u8; 20],
+    bytes: &Bytes,
+) -> Result<(), OutOfMemory>
     requires { length (name.now ++ bytes.now) ≤ MESSAGE_LIMIT }
-    ensures { OnOk result (out.new ≡ out.old ++ item_bytes 0x81 (name.now ++ bytes.now)) }
+    ensures { OnOk result (out.new ≡ out.old ++ item_bytes tag (name.now ++ bytes.now)) }
 {
-    let begun = open_item(out, FOUND)?;
+    let begun = open_item(out, tag)?;
     let put = put_named(out, name, bytes);
     close_item(out, begun, put)
 }
 
-// The reply with what was found.
-fn reply_with(alloc: Global, name: &[u8; 20], found: &Option<Bytes>) -> Result<Bytes, OutOfMemory>
+// Appends the reply with what was found.
+fn put_found(out: &mut Bytes, name: &[u8; 20], found: &Option<Bytes>) -> Result<(), OutOfMemory>
     requires { length (content_reply name.now found.now) ≤ MESSAGE_LIMIT }
-    ensures { IfOk result (λ reply. reply ≡ content_reply name.now found.now) }
+    ensures { OnOk result (out.new ≡ out.old ++ content_reply name.now found.now) }
 {
-    let mut out = Bytes::new(alloc, b"")?;
     match found {
-        Some(bytes) => put_content(&mut out, name, bytes)?,
-        None => put_item(&mut out, NONE, name)?,
+        Some(bytes) => put_content(out, FOUND, name, bytes),
+        None => put_item(out, NONE, name),
     }
-    Ok(out)
 }
 
 // The size of the file that stands under the name, if one does.
@@ -107,40 +110,44 @@ fn check_room<D: TreeDisk>(
     Ok(())
 }
 
-// The reply with the content of a name, as it is read. `TooLarge` where it would make the replies too long, and then it isn't made.
+// Appends the reply with the content of a name, as it is read. `TooLarge` where it would make the replies too long, and then it isn't
+// made.
 fn read_content<D: TreeDisk>(
     alloc: Global,
     disk: &mut D,
     catalogue: &Catalogue,
     name: &[u8; 20],
     sent: u64,
-) -> Result<Bytes, Stop>
+    out: &mut Bytes,
+) -> Result<u64, Stop>
     requires { IsTrue D.disk.tells → HoldsCatalogue (D.disk.reads disk.old) catalogue.now }
-    ensures answers { Answers D.disk (IsReplyOf (Content name.now)) (IsUnansweredOf (Content name.now) sent)
+    ensures answers { Answers D.disk (λ tree to. HasReplied (Content name.now) sent tree out.old out.new to) (IsUnansweredOf (Content name.now) sent)
         (IsDamagedFor catalogue.now.troves (Content name.now)) disk.old disk.new result }
-    ensures room { IfOk result (λ reply. sent + length reply ≤ MESSAGE_LIMIT) }
+    ensures room { IfOk result (λ to. to ≤ MESSAGE_LIMIT) }
 {
     stored_state();
     one_repository();
     let found = content(alloc, disk, catalogue, name)?;
-    with_reply(sent, reply_len(&found)?)?;
-    Ok(reply_with(alloc, name, &found)?)
+    let to = with_reply(sent, reply_len(&found)?)?;
+    put_found(out, name, &found)?;
+    Ok(to)
 }
 
-/// The reply with the content of a name, behind replies whose stream with its end has so many bytes. `TooLarge` where it would make
-/// that longer than a message may be; then the content isn't read.
+/// Appends the reply with the content of a name, and tells how many bytes the stream of replies has with it and its end, which had so
+/// many. `TooLarge` where these are more than a message may have; then the content isn't read.
 pub(crate) fn content_of<D: TreeDisk>(
     alloc: Global,
     disk: &mut D,
     catalogue: &Catalogue,
     name: &[u8; 20],
     sent: u64,
-) -> Result<Bytes, Stop>
+    out: &mut Bytes,
+) -> Result<u64, Stop>
     requires { IsTrue D.disk.tells → HoldsCatalogue (D.disk.reads disk.old) catalogue.now }
-    ensures answers { Answers D.disk (IsReplyOf (Content name.now)) (IsUnansweredOf (Content name.now) sent)
+    ensures answers { Answers D.disk (λ tree to. HasReplied (Content name.now) sent tree out.old out.new to) (IsUnansweredOf (Content name.now) sent)
         (IsDamagedFor catalogue.now.troves (Content name.now)) disk.old disk.new result }
-    ensures room { IfOk result (λ reply. sent + length reply ≤ MESSAGE_LIMIT) }
+    ensures room { IfOk result (λ to. to ≤ MESSAGE_LIMIT) }
 {
     check_room(alloc, disk, catalogue, name, sent)?;
-    read_content(alloc, disk, catalogue, name, sent)
+    read_content(alloc, disk, catalogue, name, sent, out)
 }

@@ -98,38 +98,40 @@ fn put_value(
     put_ids(alloc, out, catalogue, places)
 }
 
-// The item of the ids of the troves at these places, of which there are so many.
-fn ids_item(
+// Appends the item of the ids of the troves at these places, of which there are so many.
+fn put_item_of(
     alloc: Global,
+    out: &mut Bytes,
     catalogue: &Catalogue,
     places: &[usize],
     number: u32,
-) -> Result<Bytes, OutOfMemory>
+) -> Result<(), OutOfMemory>
     requires number { number ≡ length (map id_of (troves_at catalogue.now.troves places.now)) }
     requires room { length (ids_reply (map id_of (troves_at catalogue.now.troves places.now))) ≤ MESSAGE_LIMIT }
-    ensures { IfOk result (λ reply. reply ≡ ids_reply (map id_of (troves_at catalogue.now.troves places.now))) }
+    ensures { OnOk result (out.new ≡ out.old ++ ids_reply (map id_of (troves_at catalogue.now.troves places.now))) }
 {
-    let mut out = Bytes::new(alloc, b"")?;
-    let begun = open_item(&mut out, IDS)?;
-    let put = put_value(alloc, &mut out, catalogue, places, number);
-    close_item(&mut out, begun, put)?;
-    Ok(out)
+    let begun = open_item(out, IDS)?;
+    let put = put_value(alloc, out, catalogue, places, number);
+    close_item(out, begun, put)
 }
 
-/// The reply with the ids of a name, behind replies whose stream with its end has so many bytes. `TooLarge` exactly where it would
-/// make that longer than a message may be, and then it isn't made.
+/// Appends the reply with the ids of a name, and tells how many bytes the stream of replies has with it and its end, which had so many.
+/// `TooLarge` exactly where these are more than a message may have, and then it isn't made.
 pub(crate) fn named(
     alloc: Global,
     catalogue: &Catalogue,
     name: &Name,
     sent: u64,
-) -> Result<Bytes, Fault>
-    ensures value { IfOk result (λ reply. reply ≡ ids_reply (ids_named name.now catalogue.now.troves)) }
-    ensures room { IfOk result (λ reply. sent + length reply ≤ MESSAGE_LIMIT) }
+    out: &mut Bytes,
+) -> Result<u64, Fault>
+    ensures value { IfOk result (λ to. to ≡ sent + length (ids_reply (ids_named name.now catalogue.now.troves))) }
+    ensures put { OnOk result (out.new ≡ out.old ++ ids_reply (ids_named name.now catalogue.now.troves)) }
+    ensures room { IfOk result (λ to. to ≤ MESSAGE_LIMIT) }
     ensures refused { IfErr result (IsLongOrMemory (sent + length (ids_reply (ids_named name.now catalogue.now.troves)))) }
 {
     let places = catalogue.by_name(name);
     let extent = extent_of(alloc, catalogue, places)?;
-    with_reply(sent, sum_of(HEAD_LEN, extent.len)?)?;
-    Ok(ids_item(alloc, catalogue, places, extent.number as u32)?)
+    let to = with_reply(sent, sum_of(HEAD_LEN, extent.len)?)?;
+    put_item_of(alloc, out, catalogue, places, extent.number as u32)?;
+    Ok(to)
 }

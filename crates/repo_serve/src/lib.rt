@@ -3,6 +3,7 @@
 #![tactic(auto)]
 
 mod answering;
+mod carrying;
 mod contents;
 mod ending;
 mod feeding;
@@ -16,6 +17,7 @@ mod serving;
 mod session;
 mod sets;
 mod unanswered;
+mod wanted;
 
 pub use laws::{one_answer, sound_replies};
 pub use repo_mirror;

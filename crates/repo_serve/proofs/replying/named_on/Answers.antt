@@ -1,4 +1,4 @@
-use Rattle.std.proofs.Common.{length}
+use Rattle.std.proofs.Common.{length, refl}
 use Rattle.repo_mirror.specs.declared.request.Request.TheVariants.{Named}
 use Rattle.repo_serve.specs.Reply.{ids_named, ids_reply}
 use Rattle.repo_serve.proofs.AnswersLaws.{answers_fault, answers_value, looked}
@@ -17,4 +17,10 @@ returns-in_err-named-clause-answers g c =
 pub returns-clause-answers : goal.returns-clause-answers
 returns-clause-answers g c =
     answers_value (looked g.met.D.TreeDisk.laws c.args.disk.now)
-    (λ told p. named_reply c.stored_state.ensures.catalogue (g.D.TreeDisk.disk.reads c.args.disk.now) c.args.catalogue.now (c.requires told) c.one_repository.ensures.commits c.args.name.now c.in_ok-named.field-0 c.in_ok-named.ensures.value)
+    (λ told p. record {
+      reply = ids_reply (ids_named c.args.name.now c.args.catalogue.now.troves);
+      reply_is = named_reply c.stored_state.ensures.catalogue (g.D.TreeDisk.disk.reads c.args.disk.now) c.args.catalogue.now (c.requires told) c.one_repository.ensures.commits c.args.name.now
+          (ids_reply (ids_named c.args.name.now c.args.catalogue.now.troves)) refl;
+      put = c.in_ok-named.ensures.put;
+      to_is = c.in_ok-named.ensures.value;
+    })

@@ -1,32 +1,16 @@
-use Rattle.std.proofs.Common.{◌∷◌, List, ℕ, length, ◌∙◌, ap, arith, length-append}
-use Rattle.std.specs.Int.{w32, to_be_bytes}
-use Rattle.repo_load.proofs.LooksLaws.{looks_answer}
-use Rattle.repo_serve.proofs.Absolute.{long, no_old, not_too_large, sent_set, short_stream}
+use Rattle.std.proofs.Common.{subst}
+use Rattle.std.specs.Prelude.{MatchResult}
+use Rattle.repo_load.specs.trove-stream.FilesOf.{files_of}
+use Rattle.repo_load.specs.tree-disk.Tree.{Name, Tree}
+use Rattle.repo_load.proofs.LooksLaws.{looks_damage, looks_start}
+use Rattle.repo_serve.specs.Wanted.{AreWanted, HasTwoSizes}
+use Rattle.repo_serve.proofs.PutSets.{damaged_two}
 use Rattle.repo_serve.proofs.sets.absolute.Goals as goal
 
-pub between-requires-clause-old_rises : goal.between-requires-clause-old_rises
-between-requires-clause-old_rises g c = no_old
-
-pub stream_of-requires-clause-small : goal.stream_of-requires-clause-small
-stream_of-requires-clause-small g c =
-    not_too_large c.absolute_set.ensures.parts c.absolute_set.ensures.contents c.args.troves.now c.in_ok-set.set c.in_ok-set.ensures.between c.in_ok-set.ensures.contents c.sent_length.ensures c.requires.small
-
-pub set_item-requires : goal.set_item-requires
-set_item-requires g c =
-    let stream = c.get.ensures ∙ c.in_ok-stream.ensures in
-    short_stream c.absolute_set.ensures.parts c.absolute_set.ensures.contents c.args.troves.now c.in_ok-set.set c.in_ok-set.ensures.between c.in_ok-set.ensures.contents c.sent_length.ensures c.requires.small c.get.result.now stream
-
-pub returns-clause-looks : goal.returns-clause-looks
-returns-clause-looks g c =
-    let stream = c.get.ensures ∙ c.in_ok-stream.ensures in
-    looks_answer c.in_ok-set.ensures.looks
-    (λ told stands. sent_set c.absolute_set.ensures.parts c.absolute_set.ensures.contents c.args.troves.now c.in_ok-set.set c.in_ok-set.ensures.between c.in_ok-set.ensures.contents (g.D.TreeDisk.disk.reads c.args.disk.now) stands
-    c.in_ok-set_item.field-0 c.get.result.now stream c.in_ok-set_item.ensures)
-
-pub returns-clause-len : goal.returns-clause-len
-returns-clause-len g c =
-    let stream = ap (λ (l : List ℕ). length l) (c.get.ensures ∙ c.in_ok-stream.ensures) in
-    let item = ap (λ (l : List ℕ). length l) c.in_ok-set_item.ensures in
-    let sum = length-append (0x84 ∷ to_be_bytes w32 (length c.get.result.now)) c.get.result.now in
-    let told = long c.absolute_set.ensures.parts c.absolute_set.ensures.contents c.args.troves.now c.in_ok-set.set c.in_ok-set.ensures.between c.in_ok-set.ensures.contents c.sent_length.ensures c.requires.small in
-    omega (arith, stream, item, sum, told)
+pub returns-in_ok-content_path-in-Err : goal.returns-in_ok-content_path-in-Err
+returns-in_ok-content_path-in-Err g c =
+    let files = files_of c.args.troves.now in
+    let two : HasTwoSizes files c.in-Err.name = subst (λ r. MatchResult r (λ wanted. AreWanted files wanted.items) (HasTwoSizes files)) c.in-Err.is c.in_ok-wanted.ensures in
+    looks_damage {P = λ (tree : Tree) (x : Unit {0}). Unit {0}} {Q = λ (tree : Tree) (path : Name). ⊥} {x = tt} (looks_start g.met.D.TreeDisk.laws c.args.disk.now tt (λ tells. tt))
+    (λ told u.
+    damaged_two c.args.troves.now c.absolute_set.ensures.contents c.in-Err.name two (g.D.TreeDisk.disk.reads c.args.disk.now) c.in_ok-content_path-in-Err.field-0 c.in_ok-content_path-in-Err.ensures)
