@@ -32,6 +32,10 @@ read_shown {disk = disk} laws {old = old} read = unfailed_confined (confined_rea
 pub read_at : {D : Type 0} {disk : DiskModel D} (a b c d : D) → a ≡ b → c ≡ d → Reads disk a c (Unit {0}) → Reads disk b d (Unit {0})
 read_at {D = D} {disk = disk} a b c d before after read = subst (λ (x : D). Reads disk x d (Unit {0})) before (subst (λ (x : D). Reads disk a x (Unit {0})) after read)
 
+-- the same of a disk that was lent: it is given back by its name, as what it became
+pub read_lent : {D N : Type 0} {disk : DiskModel D} (lent now : D) {old new : D} {first last : N} → lent ≡ old → last ≡ first → (first ≡ last → new ≡ now) → Reads disk lent now (Unit {0}) → Reads disk old new (Unit {0})
+read_lent lent now {old = old} {new = new} before same back read = read_at lent old now new before (sym (back (sym same))) read
+
 -- while a disk is only read, it stays at its state
 pub goes_read : {D X : Type 0} {store : Store X} → IsStore store → {disk : DiskModel D} → IsDisk disk → (old new : D) (x : X) (end : End) → HasRead disk old new (Unit {0}) → RestsAt store disk old x → Goes store disk x x old new end
 goes_read laws disk_laws old new x end read rests = record {

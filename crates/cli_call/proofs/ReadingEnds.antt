@@ -7,12 +7,12 @@ use Rattle.cny_laws.specs.system-core.cny-base.declared.node.Node.{Node}
 use Rattle.cny_laws.specs.system-core.cny-base.declared.refusal.Fault.{Fault}
 use Rattle.cny_laws.specs.system-core.cny-base.declared.refusal.Fault.TheVariants as fault
 use Rattle.cny_laws.specs.system-core.cny-base.declared.refusal.Refusal.{Refusal}
+use Rattle.cny_laws.specs.system-core.cny-base.declared.refusal.What.TheVariants as what
 use Rattle.cny_laws.specs.system-core.cny-base.declared.stop.Stop.{Stop}
 use Rattle.cny_laws.specs.system-core.cny-base.declared.stop.Stop.TheVariants as stop
-use Rattle.cny_laws.specs.system-core.tree-disk.Tree.{Tree}
+use Rattle.cny_laws.specs.system-core.tree-disk.Tree.{Name, Tree}
 use Rattle.cny_laws.specs.system-core.tree-disk.Disk.{DiskModel, IsDisk, HasRead}
 use Rattle.cny_laws.specs.system-core.tree-disk.Rows.{bytes_of}
-use Rattle.trove_spec.specs.declared.config.Config.{Config}
 use Rattle.cny_laws.specs.system-core.tree-journal.Recovery.{is_committed}
 use Rattle.repo_index.specs.Catalogue.{CatalogueParts}
 use Rattle.repo_load.specs.Files.{HoldsCatalogue, StoresRepository}
@@ -20,7 +20,8 @@ use Rattle.repo_load.specs.State.{catalogue_of, troves_of, RepositoryState}
 use Rattle.cny_laws.specs.system-core.FixedDirs.{fixed_dirs}
 use Rattle.local_db.specs.declared.format.Format.TheVariants.{Two}
 use Rattle.local_db.specs.Stores.{HoldsDatabase}
-use Rattle.trove_spec.specs.RootConfig.{config_path, within_limit, HasConfig, HasConfigIn, ReadsConfig}
+use Rattle.trove_spec.specs.RootConfig.{config_path, HasConfig, HasConfigIn}
+use Rattle.trove_spec.specs.RootFile.{within_limit, ReadsFile}
 use Rattle.cny_laws.specs.declared.failure.Failure.{Failure}
 use Rattle.cny_laws.specs.declared.failure.Failure.TheVariants as failure
 use Rattle.cny_laws.specs.declared.opened.Opened.{Opened}
@@ -41,28 +42,34 @@ use Rattle.cny_laws.specs.Stores.{repository_store, root_store}
 abbrev pub CatalogueIs : Type 0
 CatalogueIs = (x : Tree) (r : RepositoryState) (c : CatalogueParts) → StoresRepository x r → HoldsCatalogue x c → c ≡ catalogue_of r.commits
 
--- ---- the configuration
+-- ---- a text file of the root
 
--- the configuration file isn't in the private directory
-foreign : is_reserved config_path ≡ false
-foreign = refl
+-- a file outside the private directory, by what stands at its path alone
+pub record IsTextFile {V : Type 0} (Says : Tree → Result V Refusal → Type 0) : Type 0 where
+  pub path : Name
+  pub foreign : is_reserved path ≡ false
+  pub same : (t u : Tree) (r : Result V Refusal) → get t path ≡ get u path → Says t r → Says u r
 
-same_config : (t u : Tree) (r : Result Config Refusal) → get t config_path ≡ get u config_path → HasConfig t r → HasConfig u r
-same_config t u r same has = subst (λ (o : Option Node). HasConfigIn (within_limit (bytes_of o)) r) same has
+pub configuration : IsTextFile HasConfig
+configuration = record {
+  path = config_path;
+  foreign = refl;
+  same = λ t u r same has. subst (λ (o : Option Node). HasConfigIn (within_limit what.Config (bytes_of o)) r) same has;
+}
 
 -- what was read, where reading didn't stop
-pub config_made : {D : Type 0} (disk : DiskModel D) (old new : D) (r : Result Config Stop) → ReadsConfig disk old new r → (config : Config) → root_result r ≡ Ok config → ReadsConfig disk old new (Ok config)
-config_made disk old new (Ok made) reads config is = subst (λ (x : Result Config Failure). IfOk x (λ k. ReadsConfig disk old new (Ok k))) is reads
-config_made disk old new (Err e) reads config is = absurd (cc is)
+pub file_made : {V D : Type 0} {Says : Tree → Result V Refusal → Type 0} (disk : DiskModel D) (old new : D) (r : Result V Stop) → ReadsFile Says disk old new r → (value : V) → root_result r ≡ Ok value → ReadsFile Says disk old new (Ok value)
+file_made {V = V} {Says = Says} disk old new (Ok made) reads value is = subst (λ (x : Result V Failure). IfOk x (λ k. ReadsFile Says disk old new (Ok k))) is reads
+file_made disk old new (Err e) reads value is = absurd (cc is)
 
--- each state that has what was read when the disks were opened has the configuration that was read
-pub config_opened : {T : Type 0} {root_disk : DiskModel T} (root : T) (opened : Opened) (r : Result Config Refusal) → HasConfig (root_disk.reads root) r → (s : State) → HasOpened root_disk root opened s → HasConfig (tree_of s.root) r
-config_opened {root_disk = root_disk} root opened r has s is = same_config (root_disk.reads root) (tree_of s.root) r (is.outer config_path foreign) has
+-- each state that has what was read when the disks were opened has what the file was read to say
+pub file_opened : {V T : Type 0} {Says : Tree → Result V Refusal → Type 0} (file : IsTextFile Says) {root_disk : DiskModel T} (root : T) (opened : Opened) (r : Result V Refusal) → Says (root_disk.reads root) r → (s : State) → HasOpened root_disk root opened s → Says (tree_of s.root) r
+file_opened file {root_disk = root_disk} root opened r has s is = file.same (root_disk.reads root) (tree_of s.root) r (is.outer file.path file.foreign) has
 
 module _ {T P : Type 0} {root_disk : DiskModel T} {repo_disk : DiskModel P} where
-  -- the state has the configuration that was read
-  pub config_of : (old : Disks T P) (r : Result Config Refusal) → HasConfig (root_disk.reads old.root) r → (s : State) → StandsFor root_disk repo_disk old s → HasConfig (tree_of s.root) r
-  config_of old r has s stands = same_config (root_disk.reads old.root) (tree_of s.root) r (stored_outside (root_disk.reads old.root) s.root stands.root.stored config_path foreign) has
+  -- what it says in the state
+  pub file_at : {V : Type 0} {Says : Tree → Result V Refusal → Type 0} (file : IsTextFile Says) (old : Disks T P) (r : Result V Refusal) → Says (root_disk.reads old.root) r → (s : State) → StandsFor root_disk repo_disk old s → Says (tree_of s.root) r
+  file_at file old r has s stands = file.same (root_disk.reads old.root) (tree_of s.root) r (stored_outside (root_disk.reads old.root) s.root stands.root.stored file.path file.foreign) has
 
   -- the state has the troves that were loaded
   pub troves_at : CatalogueIs → (old : Disks T P) → AreReady root_disk repo_disk old → IsTrue repo_disk.tells → (s : State) → RestsAt repository_store repo_disk old.repo s.repository → old.opened.catalogue.troves ≡ troves_of s.repository.commits
@@ -96,41 +103,41 @@ module _ {T P : Type 0} {root_disk : DiskModel T} {repo_disk : DiskModel P} wher
     }
 
     module _ (store_laws : IsStore repository_store) (m : Meaning) (input : List ℕ) where
-      -- ---- the configuration couldn't be read
+      -- ---- the file couldn't be read
 
-      module _ (root root' : T) (repo : P) (opened : Opened) (ready : AreReady root_disk repo_disk (disks root repo opened)) where
+      module _ {V : Type 0} {Says : Tree → Result V Refusal → Type 0} (file : IsTextFile Says) (root root' : T) (repo : P) (opened : Opened) (ready : AreReady root_disk repo_disk (disks root repo opened)) where
         abbrev pub Stopped : Failure → Type 0
         Stopped f = Performs root_disk repo_disk m input (disks root repo opened) (disks root' repo opened) (Err f)
 
-        stopped : ((s : State) (refused : Refusal) → HasConfig (tree_of s.root) (Err refused) → m.IsOutcome s input (Err refused)) → (e : Stop) → ReadsConfig root_disk root root' (Err e) → IfErr (let r : Result Config Stop = Err e in root_result r) Stopped
+        stopped : ((s : State) (refused : Refusal) → Says (tree_of s.root) (Err refused) → m.IsOutcome s input (Err refused)) → (e : Stop) → ReadsFile Says root_disk root root' (Err e) → IfErr (let r : Result V Stop = Err e in root_result r) Stopped
         stopped refuses (stop.Refused refused) reads = performs_reading root_disk_laws repo_disk_laws root_laws store_laws m input (disks root repo opened) (disks root' repo opened) ready (root_read root root' repo opened reads.later reads.same) (Err (failure.Refused refused)) tt
-            (λ told repo_told s stands. refuses s refused (config_of (disks root repo opened) (Err refused) (reads.ends told) s stands))
+            (λ told repo_told s stands. refuses s refused (file_at file (disks root repo opened) (Err refused) (reads.ends told) s stands))
         stopped refuses stop.Failed reads = performs_reading root_disk_laws repo_disk_laws root_laws store_laws m input (disks root repo opened) (disks root' repo opened) ready (root_read root root' repo opened reads.later reads.same) (Err failure.RootFault) reads.ends tt
         stopped refuses stop.Memory reads = performs_reading root_disk_laws repo_disk_laws root_laws store_laws m input (disks root repo opened) (disks root' repo opened) ready (root_read root root' repo opened reads.later reads.same) (Err failure.Memory) tt tt
         stopped refuses (stop.Damaged path) reads = absurd reads.ends
         stopped refuses stop.FarFailed reads = absurd reads.ends
         stopped refuses (stop.FarDamaged path) reads = absurd reads.ends
 
-        pub config_stopped : ((s : State) (refused : Refusal) → HasConfig (tree_of s.root) (Err refused) → m.IsOutcome s input (Err refused)) → (r : Result Config Stop) → ReadsConfig root_disk root root' r → (f : Failure) → root_result r ≡ Err f → Stopped f
-        config_stopped refuses (Ok config) reads f is = absurd (cc is)
-        config_stopped refuses (Err e) reads f is = subst (λ (x : Result Config Failure). IfErr x Stopped) is (stopped refuses e reads)
+        pub file_stopped : ((s : State) (refused : Refusal) → Says (tree_of s.root) (Err refused) → m.IsOutcome s input (Err refused)) → (r : Result V Stop) → ReadsFile Says root_disk root root' r → (f : Failure) → root_result r ≡ Err f → Stopped f
+        file_stopped refuses (Ok value) reads f is = absurd (cc is)
+        file_stopped refuses (Err e) reads f is = subst (λ (x : Result V Failure). IfErr x Stopped) is (stopped refuses e reads)
 
         -- also by what was read when the disks were opened
         abbrev pub StoppedOpened : Failure → Type 0
         StoppedOpened f = AnswersByOpened root_disk repo_disk m input (disks root repo opened) (disks root' repo opened) (Err f)
 
-        stopped_opened : ((s : State) (refused : Refusal) → HasConfig (tree_of s.root) (Err refused) → m.IsOutcome s input (Err refused)) → (e : Stop) → ReadsConfig root_disk root root' (Err e) → IfErr (let r : Result Config Stop = Err e in root_result r) StoppedOpened
+        stopped_opened : ((s : State) (refused : Refusal) → Says (tree_of s.root) (Err refused) → m.IsOutcome s input (Err refused)) → (e : Stop) → ReadsFile Says root_disk root root' (Err e) → IfErr (let r : Result V Stop = Err e in root_result r) StoppedOpened
         stopped_opened refuses (stop.Refused refused) reads = refused_opened root_disk_laws m input (disks root repo opened) (disks root' repo opened) ready reads.same (λ told. refl) refused
-            (λ told s has. refuses s refused (config_opened root opened (Err refused) (reads.ends told) s has))
+            (λ told s has. refuses s refused (file_opened file root opened (Err refused) (reads.ends told) s has))
         stopped_opened refuses stop.Failed reads = root_fault_opened root_disk_laws m input (disks root repo opened) (disks root' repo opened) ready reads.same
         stopped_opened refuses stop.Memory reads = memory_opened root_disk_laws m input (disks root repo opened) (disks root' repo opened) ready reads.same
         stopped_opened refuses (stop.Damaged path) reads = absurd reads.ends
         stopped_opened refuses stop.FarFailed reads = absurd reads.ends
         stopped_opened refuses (stop.FarDamaged path) reads = absurd reads.ends
 
-        pub config_stopped_opened : ((s : State) (refused : Refusal) → HasConfig (tree_of s.root) (Err refused) → m.IsOutcome s input (Err refused)) → (r : Result Config Stop) → ReadsConfig root_disk root root' r → (f : Failure) → root_result r ≡ Err f → StoppedOpened f
-        config_stopped_opened refuses (Ok config) reads f is = absurd (cc is)
-        config_stopped_opened refuses (Err e) reads f is = subst (λ (x : Result Config Failure). IfErr x StoppedOpened) is (stopped_opened refuses e reads)
+        pub file_stopped_opened : ((s : State) (refused : Refusal) → Says (tree_of s.root) (Err refused) → m.IsOutcome s input (Err refused)) → (r : Result V Stop) → ReadsFile Says root_disk root root' r → (f : Failure) → root_result r ≡ Err f → StoppedOpened f
+        file_stopped_opened refuses (Ok value) reads f is = absurd (cc is)
+        file_stopped_opened refuses (Err e) reads f is = subst (λ (x : Result V Failure). IfErr x StoppedOpened) is (stopped_opened refuses e reads)
 
       -- ---- a test refused, or memory ran out
 

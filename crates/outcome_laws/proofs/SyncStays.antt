@@ -3,6 +3,7 @@ use Rattle.std.proofs.Common.{◌≡◌, inl, inr, ℕ, false, List, [], Option,
 use Rattle.conary_cli.specs.cli-call.cny-base.declared.node.Node.{Node}
 use Rattle.conary_cli.specs.cli-call.cny-base.declared.options.Options.{Options}
 use Rattle.conary_cli.specs.cli-call.cny-base.declared.refusal.Refusal.{Refusal}
+use Rattle.conary_cli.specs.cli-call.cny-base.declared.refusal.What.TheVariants as what
 use Rattle.conary_cli.specs.cli-call.trove-stream.declared.parts.TroveParts.{TroveParts}
 use Rattle.conary_cli.specs.cli-call.tree-disk.Rows.{bytes_of}
 use Rattle.conary_cli.specs.cli-call.Answer.{answer}
@@ -15,7 +16,8 @@ use Rattle.cny_report.specs.Troves.{nothing_changes}
 use Rattle.repo_load.specs.State.{troves_of, Commit}
 use Rattle.trove_spec.specs.AndThen.{AndThen, Finds}
 use Rattle.trove_spec.specs.declared.config.Config.{Config}
-use Rattle.trove_spec.specs.RootConfig.{within_limit, HasConfig, HasConfigIn}
+use Rattle.trove_spec.specs.RootConfig.{HasConfig, HasConfigIn}
+use Rattle.trove_spec.specs.RootFile.{within_limit}
 use Rattle.conary_cli.specs.root-commands.sys-model.declared.model.Model.{Model}
 use Rattle.conary_cli.specs.root-commands.sys-model.RootModel.{HasModel, HasModelIn}
 use Rattle.conary_cli.specs.root-commands.sys-model.Wanted.{Wants}
@@ -75,7 +77,7 @@ wants_still : (s t : State) (list : List TroveParts) → KeepsModel s t list →
 wants_still s t list kept is =
     let model = is.model in record {
       config = is.config;
-      configured = subst (λ (o : Option Node). HasConfigIn (within_limit (bytes_of o)) (Ok is.config)) (sym kept.config) is.configured;
+      configured = subst (λ (o : Option Node). HasConfigIn (within_limit what.Config (bytes_of o)) (Ok is.config)) (sym kept.config) is.configured;
       model = model;
       says = subst (λ (o : Option Node). HasModelIn (file_of o) (Ok model)) (sym kept.model) is.says;
       wants = subst (λ (commits : List Commit). Wants (troves_of commits) is.config model.lines (Ok list)) (sym kept.commits) is.wants;

@@ -35,7 +35,7 @@ use Rattle.trove_spec.specs.Meant.{Means}
 use Rattle.repo_commands.specs.Moving.{move, set_of_troves, IsMoved, Moves}
 use Rattle.cli_call.proofs.AfterReading.{performs_since}
 use Rattle.cli_call.proofs.OpenedEnds.{fault_opened, opened_since}
-use Rattle.cli_call.proofs.ReadingEnds.{CatalogueIs, config_of, config_opened, fault_ends, root_read, troves_are}
+use Rattle.cli_call.proofs.ReadingEnds.{configuration, fault_ends, file_at, file_opened, root_read, troves_are, CatalogueIs}
 use Rattle.repository.proofs.change-set.Carrying.{no_carried as nothing_rises}
 
 -- a set without contents carries just those of its parts
@@ -63,7 +63,7 @@ module _ {T P : Type 0} {root_disk : DiskModel T} {repo_disk : DiskModel P} (roo
   with_config : IsTrue root_disk.tells → (s : State) → StandsFor root_disk repo_disk (disks root repo opened) s → (outcome : Result Effect Refusal)
       → AndThen (Means (troves_of s.repository.commits) config given) (λ (id : TroveId). AndThen (IsMoved way label (troves_of s.repository.commits) id) (λ (made : List TroveParts). Commits (set_of_troves made) s.repository)) outcome
       → Moves s way label given outcome
-  with_config told s stands outcome rest = inl (record { value = config; found = config_of (disks root repo opened) (Ok config) (configured.ends told) s stands; rest = rest })
+  with_config told s stands outcome rest = inl (record { value = config; found = file_at configuration (disks root repo opened) (Ok config) (configured.ends told) s stands; rest = rest })
 
   only_read : AreRead root_disk repo_disk (disks root repo opened) (disks root' repo opened)
   only_read = root_read root_disk_laws repo_disk_laws root root' repo opened configured.later configured.same
@@ -134,7 +134,7 @@ module _ {T P : Type 0} {root_disk : DiskModel T} {repo_disk : DiskModel P} (roo
   Answered f = AnswersByOpened root_disk repo_disk (move way label given) input (disks root repo opened) (disks root' repo opened) (Err f)
 
   found_in : IsTrue root_disk.tells → (s : State) → HasOpened root_disk root opened s → HasConfig (tree_of s.root) (Ok config)
-  found_in told s has = config_opened root opened (Ok config) (configured.ends told) s has
+  found_in told s has = file_opened configuration root opened (Ok config) (configured.ends told) s has
 
   troves_in : (s : State) → HasOpened root_disk root opened s → opened.catalogue.troves ≡ troves_of s.repository.commits
   troves_in s has = ap (λ (c : CatalogueParts). c.troves) (sym has.catalogue)

@@ -41,7 +41,7 @@ use Rattle.trove_spec.specs.AndThen.{AndThen, EndsAs}
 use Rattle.trove_spec.specs.Meant.{Expands, ExpandsFrom}
 use Rattle.repo_commands.specs.Sending.{changeset, IsSent, IsSentFrom, IsSetWritten, IsSetAnswered, Sends, SendsFrom}
 use Rattle.cli_call.proofs.OpenedEnds.{fault_whole, memory_opened, opened_contents, repo_fault_opened, root_moments, same_holds}
-use Rattle.cli_call.proofs.ReadingEnds.{CatalogueIs, config_of, config_opened, fault_ends, root_read, troves_are}
+use Rattle.cli_call.proofs.ReadingEnds.{configuration, fault_ends, file_at, file_opened, root_read, troves_are, CatalogueIs}
 use Rattle.cny_version.proofs.cny-base.Lists.{all_from, contains_map}
 use Rattle.repository.proofs.BetweenCarrying.{records_sized, sends_records}
 
@@ -81,7 +81,7 @@ module _ {T P : Type 0} {root_disk : DiskModel T} {repo_disk : DiskModel P} (roo
   with_config : IsTrue root_disk.tells → (s : State) → StandsFor root_disk repo_disk (disks root repo opened) s → (outcome : Result Effect Refusal)
       → AndThen (ExpandsFrom (troves_of s.repository.commits) config from) (λ (old : List TroveParts). AndThen (Expands (troves_of s.repository.commits) config to) (λ (fresh : List TroveParts). IsSent s.repository old fresh)) outcome
       → Sends s from to outcome
-  with_config told s stands outcome rest = inl (record { value = config; found = config_of (disks root repo opened) (Ok config) (configured.ends told) s stands; rest = rest })
+  with_config told s stands outcome rest = inl (record { value = config; found = file_at configuration (disks root repo opened) (Ok config) (configured.ends told) s stands; rest = rest })
 
   only_read : AreRead root_disk repo_disk (disks root repo opened) (disks root' repo opened)
   only_read = root_read root_disk_laws repo_disk_laws root root' repo opened configured.later configured.same
@@ -183,7 +183,7 @@ module _ {T P : Type 0} {root_disk : DiskModel T} {repo_disk : DiskModel P} (roo
   given_config : IsTrue root_disk.tells → (s : State) → HasOpened root_disk root opened s → (outcome : Result Effect Refusal)
       → AndThen (ExpandsFrom (troves_of s.repository.commits) config from) (λ (old : List TroveParts). AndThen (Expands (troves_of s.repository.commits) config to) (λ (fresh : List TroveParts). IsSent s.repository old fresh)) outcome
       → Sends s from to outcome
-  given_config told s has outcome rest = inl (record { value = config; found = config_opened root opened (Ok config) (configured.ends told) s has; rest = rest })
+  given_config told s has outcome rest = inl (record { value = config; found = file_opened configuration root opened (Ok config) (configured.ends told) s has; rest = rest })
 
   pub old_fails_whole : (f : Fault) → EndsAs (ExpandsFrom opened.catalogue.troves config from) (Err f) → AnswersByContents root_disk repo_disk (changeset from to) input (disks root repo opened) (disks root' repo opened) (Err (failure_of_fault f))
   old_fails_whole f ends = fault_whole root_disk_laws (changeset from to) input (disks root repo opened) (disks root' repo opened) ready configured.same (λ told. refl) f

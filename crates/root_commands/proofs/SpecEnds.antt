@@ -22,7 +22,7 @@ use Rattle.cli_call.specs.system-core.Lists.{AllPathsAllowed}
 use Rattle.trove_spec.specs.declared.given.GivenSpec.{GivenSpec}
 use Rattle.trove_spec.specs.AndThen.{AndThen, EndsAs}
 use Rattle.trove_spec.specs.Meant.{Means}
-use Rattle.cli_call.proofs.ReadingEnds.{CatalogueIs, config_of, troves_are}
+use Rattle.cli_call.proofs.ReadingEnds.{configuration, file_at, troves_are, CatalogueIs}
 use Rattle.root_commands.specs.Update.{UpdatesTo}
 use Rattle.root_commands.proofs.ComingEnds.{same_installed}
 use Rattle.cli_call.proofs.system-core.Held.{OneDatabase}
@@ -102,7 +102,7 @@ module _ {T P : Type 0} {root_disk : DiskModel T} {repo_disk : DiskModel P} (law
   installed_is = same_installed database old ready root_told s stands
 
   configured : HasConfig (tree_of s.root) (Ok config)
-  configured = config_of old (Ok config) (has root_told) s stands
+  configured = file_at configuration old (Ok config) (has root_told) s stands
 
   pub none_meant : (refused : Refusal) → MeanAll old.opened.catalogue.troves config givens (Err refused) → UpdatesFrom options resolve givens s (Err refused)
   none_meant refused is = unmeant_on s old.opened.catalogue.troves old.opened.db.installed troves_is installed_is options resolve givens config configured refused is

@@ -1,8 +1,7 @@
 -- The model file, by a look at it.
-use Rattle.std.proofs.Common.{◌≡◌, ℕ, ◌<◌, Bool, true, List, length, Option, Some, None, Err, Ok, sym, ap, ◌∙◌, arith, refl}
-use Rattle.std.specs.Prelude.{nat_lt, if◌then◌else◌, Result}
+use Rattle.std.proofs.Common.{◌≡◌, ℕ, ◌<◌, List, Option, Some, None, Err, sym, ap, ◌∙◌, refl}
+use Rattle.std.specs.Prelude.{if◌then◌else◌, Result}
 use Rattle.std.specs.FinMap.{get}
-use Rattle.std.proofs.lemmas.Bool.Decides.{nat_tests}
 use Rattle.repo_index.specs.cny-base.declared.limits.TheConstants.{CONFIG_LIMIT}
 use Rattle.repo_index.specs.cny-base.declared.node.Node.{Node}
 use Rattle.repo_index.specs.cny-base.declared.node.Node.TheVariants as node
@@ -13,24 +12,18 @@ use Rattle.tree_disk.specs.declared.disk.Look.{Look}
 use Rattle.tree_disk.specs.Looks.{size_seen}
 use Rattle.tree_disk.specs.Rows.{bytes_of, look_of, seen_as}
 use Rattle.tree_disk.specs.Tree.{Tree, is_file}
-use Rattle.sys_model.specs.RootModel.{model_file, model_path, within_limit}
+use Rattle.trove_spec.specs.RootFile.{within_limit}
+use Rattle.trove_spec.proofs.Sizes.{over}
+use Rattle.sys_model.specs.RootModel.{model_file, model_path}
 
 -- what is read of what stands at its path
 abbrev pub file_of : Option Node → Result (List ℕ) Refusal
-file_of o = if is_file o then within_limit (bytes_of o) else Err refusal.NoModel
-
-over : (bytes : List ℕ) (size : ℕ) → length bytes ≡ size → CONFIG_LIMIT < size → within_limit bytes ≡ Err (refusal.TooLarge what.Model size)
-over bytes size is lt =
-    ap (λ (b : Bool). if b then Err (refusal.TooLarge what.Model (length bytes)) else Ok bytes) (above CONFIG_LIMIT (length bytes) (omega (arith, is, lt)))
-    ∙ ap (λ (n : ℕ). Err (refusal.TooLarge what.Model n)) is
-  where
-    above : (m n : ℕ) → m < n → nat_lt m n ≡ true
-    above m n lt = grind (arith, nat_tests)
+file_of o = if is_file o then within_limit what.Model (bytes_of o) else Err refusal.NoModel
 
 large : (o : Option Node) (size : ℕ) → size_seen (seen_as o) ≡ Some size → CONFIG_LIMIT < size → file_of o ≡ Err (refusal.TooLarge what.Model size)
 large None size is lt = absurd (cc is)
 large (Some (node.Dir mode)) size is lt = absurd (cc is)
-large (Some (node.File mode bytes)) size is lt = over bytes size (cc is) lt
+large (Some (node.File mode bytes)) size is lt = over what.Model bytes size (cc is) lt
 large (Some (node.Link target)) size is lt = absurd (cc is)
 
 unseen : (o : Option Node) → size_seen (seen_as o) ≡ None → file_of o ≡ Err refusal.NoModel

@@ -1,10 +1,6 @@
 //! Reading the model file of a root.
-ghost use Rattle.std.specs.Prelude.{◌≡◌, ◌≤◌, IfOk, IsTrue, length, Ok};
+ghost use Rattle.std.specs.Prelude.{◌≡◌, ◌≤◌, IfOk, length};
 ghost use Rattle.repo_index.specs.cny-base.declared.limits.TheConstants.{CONFIG_LIMIT};
-ghost use Rattle.repo_index.specs.cny-base.declared.refusal.Refusal.TheVariants as refusal;
-ghost use Rattle.repo_index.specs.cny-base.declared.refusal.What.TheVariants as what;
-ghost use Rattle.repo_index.specs.cny-base.declared.stop.Stop.TheVariants as stop;
-ghost use Rattle.tree_disk.specs.Rows.{bytes_at, is_file_at};
 ghost use Rattle.tree_disk.specs.Steps.{Tests};
 ghost use Rattle.sys_model.specs.RootModel as spec;
 ghost use Rattle.sys_model.specs.RootModel.{model_file, ReadsModel};
@@ -15,6 +11,7 @@ use repo_index::cny_base::{
 };
 use std::alloc::Global;
 use tree_disk::{TreeDisk, steps};
+use trove_spec::{read_within, too_large};
 
 // Where the model file stands.
 fn model_path(alloc: Global) -> Result<Path, OutOfMemory>
@@ -24,31 +21,6 @@ fn model_path(alloc: Global) -> Result<Path, OutOfMemory>
         Ok(path) => Ok(path),
         Err(TextFault::Memory) => Err(OutOfMemory),
         Err(TextFault::Bad) => unreachable!(),
-    }
-}
-
-// The refusal of a file with so many bytes.
-fn too_large(size: u64) -> Stop
-    ensures { result ≡ stop.Refused (refusal.TooLarge what.Model size) }
-{
-    Stop::Refused(Refusal::TooLarge {
-        what: What::Model,
-        size,
-    })
-}
-
-// The bytes of a file with no more of them than the limit.
-fn read_within<T: TreeDisk>(alloc: Global, root: &mut T, path: &Path) -> Result<Bytes, Stop>
-    requires file { IsTrue T.disk.tells → IsTrue (is_file_at (T.disk.reads root.old) path.now) }
-    requires fits { IsTrue T.disk.tells → length (bytes_at (T.disk.reads root.old) path.now) ≤ CONFIG_LIMIT }
-    ensures tests { Tests T.disk (λ bytes. bytes) (λ tree. Ok (bytes_at tree path.now)) root.old root.new result }
-    ensures most { IfOk result (λ bytes. length bytes ≤ CONFIG_LIMIT) }
-{
-    let whole = steps::read_whole(alloc, root, path, CONFIG_LIMIT as u64)?;
-    match whole {
-        Some(bytes) => Ok(bytes),
-        // A disk that isn't told: the file has grown.
-        None => Err(too_large(CONFIG_LIMIT as u64 + 1)),
     }
 }
 
@@ -63,9 +35,9 @@ fn model_bytes<T: TreeDisk>(alloc: Global, root: &mut T) -> Result<Bytes, Stop>
         return Err(Stop::Refused(Refusal::NoModel));
     };
     if size > CONFIG_LIMIT as u64 {
-        return Err(too_large(size));
+        return Err(too_large(What::Model, size));
     }
-    read_within(alloc, root, &path)
+    read_within(alloc, root, &path, What::Model)
 }
 
 /// The model of a root, from the file `/etc/conary/system-model`.

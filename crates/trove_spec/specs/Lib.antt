@@ -5,5 +5,6 @@ pub mod Reach
 pub mod Expansion
 pub mod Reached
 pub mod RootConfig
+pub mod RootFile
 pub mod AndThen
 pub mod Meant

@@ -1,18 +1,13 @@
 //! Reading the configuration file.
-ghost use Rattle.std.specs.Prelude.{◌≡◌, ◌≤◌, IfOk, IsTrue, length, Ok};
+ghost use Rattle.std.specs.Prelude.{◌≡◌, ◌≤◌, IfOk, length};
 ghost use Rattle.repo_index.specs.cny-base.declared.limits.TheConstants.{CONFIG_LIMIT};
-ghost use Rattle.repo_index.specs.cny-base.declared.refusal.Refusal.TheVariants as refusal;
-ghost use Rattle.repo_index.specs.cny-base.declared.refusal.What.TheVariants as what;
-ghost use Rattle.repo_index.specs.cny-base.declared.stop.Stop.TheVariants as stop;
-ghost use Rattle.tree_disk.specs.Rows.{bytes_at, is_file_at};
 ghost use Rattle.tree_disk.specs.Steps.{Tests};
 ghost use Rattle.trove_spec.specs.RootConfig as spec;
 ghost use Rattle.trove_spec.specs.RootConfig.{config_file, ReadsConfig};
 
+use crate::bounded::{read_within, too_large};
 use crate::config::Config;
-use repo_index::cny_base::{
-    Bytes, CONFIG_LIMIT, OutOfMemory, Path, Refusal, Stop, TextFault, What,
-};
+use repo_index::cny_base::{Bytes, CONFIG_LIMIT, OutOfMemory, Path, Stop, TextFault, What};
 use std::alloc::Global;
 use tree_disk::{TreeDisk, steps};
 
@@ -27,31 +22,6 @@ fn config_path(alloc: Global) -> Result<Path, OutOfMemory>
     }
 }
 
-// The refusal of a file with so many bytes.
-fn too_large(size: u64) -> Stop
-    ensures { result ≡ stop.Refused (refusal.TooLarge what.Config size) }
-{
-    Stop::Refused(Refusal::TooLarge {
-        what: What::Config,
-        size,
-    })
-}
-
-// The bytes of a file with no more of them than the limit.
-fn read_within<T: TreeDisk>(alloc: Global, root: &mut T, path: &Path) -> Result<Bytes, Stop>
-    requires file { IsTrue T.disk.tells → IsTrue (is_file_at (T.disk.reads root.old) path.now) }
-    requires fits { IsTrue T.disk.tells → length (bytes_at (T.disk.reads root.old) path.now) ≤ CONFIG_LIMIT }
-    ensures tests { Tests T.disk (λ bytes. bytes) (λ tree. Ok (bytes_at tree path.now)) root.old root.new result }
-    ensures most { IfOk result (λ bytes. length bytes ≤ CONFIG_LIMIT) }
-{
-    let whole = steps::read_whole(alloc, root, path, CONFIG_LIMIT as u64)?;
-    match whole {
-        Some(bytes) => Ok(bytes),
-        // A disk that isn't told: the file has grown.
-        None => Err(too_large(CONFIG_LIMIT as u64 + 1)),
-    }
-}
-
 // The bytes of the configuration file, none where no file stands.
 fn config_bytes<T: TreeDisk>(alloc: Global, root: &mut T) -> Result<Bytes, Stop>
     ensures tests { Tests T.disk (λ bytes. bytes) config_file root.old root.new result }
@@ -63,9 +33,9 @@ fn config_bytes<T: TreeDisk>(alloc: Global, root: &mut T) -> Result<Bytes, Stop>
         return Ok(Bytes::from_vec(Vec::new(alloc)));
     };
     if size > CONFIG_LIMIT as u64 {
-        return Err(too_large(size));
+        return Err(too_large(What::Config, size));
     }
-    read_within(alloc, root, &path)
+    read_within(alloc, root, &path, What::Config)
 }
 
 /// The configuration of a root, from the file `/etc/conaryrc`; where no file stands there, no labels and the empty flavor.

@@ -10,7 +10,7 @@ use Rattle.repo_commands.specs.Commit.{commit_of}
 use Rattle.repo_commands.specs.Moving.{move}
 use Rattle.repo_commands.proofs.CommittedTroves.{refer_within}
 use Rattle.cli_call.proofs.OpenedEnds.{files_kept, memory_opened}
-use Rattle.cli_call.proofs.ReadingEnds.{config_made, config_stopped, config_stopped_opened, ready_on}
+use Rattle.cli_call.proofs.ReadingEnds.{configuration, file_made, file_stopped, file_stopped_opened, ready_on}
 use Rattle.repo_commands.proofs.MovingEnds.{committed_opened, meant_fails, meant_opened, memory_ends, moved_ends, moved_fails, moved_opened, no_contents, refused_config, set_is, unmoved}
 use Rattle.cny_version.proofs.cny-base.Passing.{err_is}
 use Rattle.repo_commands.proofs.moving.commit_moved.Goals as goal
@@ -21,7 +21,7 @@ returns-in_err-config-clause-performs g c input =
     let old = disks c.args.root.now c.args.repo.now c.args.opened.now in
     let new = disks c.read_config.new.root c.args.repo.now c.args.opened.now in
     err_is (Performs g.T.TreeDisk.disk g.P.TreeDisk.disk means input old new) c.from_residual.result c.in_err-config.field-0.0 c.from_residual.ensures.1
-    (config_stopped g.met.T.TreeDisk.laws g.met.P.TreeDisk.laws c.store_laws.ensures means input c.args.root.now c.read_config.new.root c.args.repo.now c.args.opened.now c.requires (refused_config c.args.way c.args.label.now c.args.given.now)
+    (file_stopped g.met.T.TreeDisk.laws g.met.P.TreeDisk.laws c.store_laws.ensures means input configuration c.args.root.now c.read_config.new.root c.args.repo.now c.args.opened.now c.requires (refused_config c.args.way c.args.label.now c.args.given.now)
     c.read_config.result c.read_config.ensures c.in_err-config.field-0.0 (sym c.on_root.ensures ∙ c.in_err-config.was))
 
 pub returns-in_err-id-clause-performs : goal.returns-in_err-id-clause-performs
@@ -29,7 +29,7 @@ returns-in_err-id-clause-performs g c input =
     let means = move c.args.way c.args.label.now c.args.given.now in
     let old = disks c.args.root.now c.args.repo.now c.args.opened.now in
     let new = disks c.read_config.new.root c.args.repo.now c.args.opened.now in
-    let configured = config_made g.T.TreeDisk.disk c.args.root.now c.read_config.new.root c.read_config.result c.read_config.ensures c.in_ok-config.config (sym c.on_root.ensures ∙ c.in_ok-config.was) in
+    let configured = file_made g.T.TreeDisk.disk c.args.root.now c.read_config.new.root c.read_config.result c.read_config.ensures c.in_ok-config.config (sym c.on_root.ensures ∙ c.in_ok-config.was) in
     err_is (Performs g.T.TreeDisk.disk g.P.TreeDisk.disk means input old new) c.from_residual-in_err-id.result (failure_of_fault c.in_err-id.field-0.0) c.from_residual-in_err-id.ensures.1
     (meant_fails g.met.T.TreeDisk.laws g.met.P.TreeDisk.laws c.stored_state.ensures.catalogue c.store_laws.ensures c.args.way c.args.label.now c.args.given.now input c.args.root.now c.read_config.new.root c.args.repo.now c.args.opened.now c.requires
     c.in_ok-config.config configured c.in_err-id.field-0.0 c.in_err-id.ensures)
@@ -42,7 +42,7 @@ returns-in_err-troves-clause-performs g c input =
     let means = move c.args.way c.args.label.now c.args.given.now in
     let old = disks c.args.root.now c.args.repo.now c.args.opened.now in
     let new = disks c.read_config.new.root c.args.repo.now c.args.opened.now in
-    let configured = config_made g.T.TreeDisk.disk c.args.root.now c.read_config.new.root c.read_config.result c.read_config.ensures c.in_ok-config.config (sym c.on_root.ensures ∙ c.in_ok-config.was) in
+    let configured = file_made g.T.TreeDisk.disk c.args.root.now c.read_config.new.root c.read_config.result c.read_config.ensures c.in_ok-config.config (sym c.on_root.ensures ∙ c.in_ok-config.was) in
     let f = c.in_err-troves.field-0.0 in
     err_is (Performs g.T.TreeDisk.disk g.P.TreeDisk.disk means input old new) c.from_residual-in_err-troves.result (failure_of_fault f) c.from_residual-in_err-troves.ensures.1
     (moved_fails g.met.T.TreeDisk.laws g.met.P.TreeDisk.laws c.stored_state.ensures.catalogue c.store_laws.ensures c.args.way c.args.label.now c.args.given.now input c.args.root.now c.read_config.new.root c.args.repo.now c.args.opened.now c.requires
@@ -53,7 +53,7 @@ returns-in_err-set-clause-performs g c input =
     let means = move c.args.way c.args.label.now c.args.given.now in
     let old = disks c.args.root.now c.args.repo.now c.args.opened.now in
     let new = disks c.read_config.new.root c.args.repo.now c.args.opened.now in
-    let configured = config_made g.T.TreeDisk.disk c.args.root.now c.read_config.new.root c.read_config.result c.read_config.ensures c.in_ok-config.config (sym c.on_root.ensures ∙ c.in_ok-config.was) in
+    let configured = file_made g.T.TreeDisk.disk c.args.root.now c.read_config.new.root c.read_config.result c.read_config.ensures c.in_ok-config.config (sym c.on_root.ensures ∙ c.in_ok-config.was) in
     err_is (Performs g.T.TreeDisk.disk g.P.TreeDisk.disk means input old new) c.from_residual-in_err-set.result _ c.from_residual-in_err-set.ensures.1
     (memory_ends g.met.T.TreeDisk.laws g.met.P.TreeDisk.laws c.stored_state.ensures.catalogue c.store_laws.ensures c.args.way c.args.label.now c.args.given.now input c.args.root.now c.read_config.new.root c.args.repo.now c.args.opened.now c.requires
     c.in_ok-config.config configured c.in_ok-id.id c.in_ok-id.ensures)
@@ -66,7 +66,7 @@ commit_set-requires-clause-ready g c = ready_on c.args.root.now c.read_config.ne
 
 pub returns-clause-performs : goal.returns-clause-performs
 returns-clause-performs g c input =
-    let configured = config_made g.T.TreeDisk.disk c.args.root.now c.read_config.new.root c.read_config.result c.read_config.ensures c.in_ok-config.config (sym c.on_root.ensures ∙ c.in_ok-config.was) in
+    let configured = file_made g.T.TreeDisk.disk c.args.root.now c.read_config.new.root c.read_config.result c.read_config.ensures c.in_ok-config.config (sym c.on_root.ensures ∙ c.in_ok-config.was) in
     let mid = disks c.read_config.new.root c.args.repo.now c.args.opened.now in
     let new = disks c.read_config.new.root c.commit_set.new.repo c.commit_set.new.opened in
     moved_ends g.met.T.TreeDisk.laws g.met.P.TreeDisk.laws c.stored_state.ensures.catalogue c.store_laws.ensures c.args.way c.args.label.now c.args.given.now input c.args.root.now c.read_config.new.root c.args.repo.now c.args.opened.now c.requires
@@ -82,7 +82,7 @@ returns-in_err-config-clause-opened g c told input =
     let old = disks c.args.root.now c.args.repo.now c.args.opened.now in
     let new = disks c.read_config.new.root c.args.repo.now c.args.opened.now in
     err_is (AnswersByOpened g.T.TreeDisk.disk g.P.TreeDisk.disk means input old new) c.from_residual.result c.in_err-config.field-0.0 c.from_residual.ensures.1
-    (config_stopped_opened g.met.T.TreeDisk.laws g.met.P.TreeDisk.laws c.store_laws.ensures means input c.args.root.now c.read_config.new.root c.args.repo.now c.args.opened.now c.requires (refused_config c.args.way c.args.label.now c.args.given.now)
+    (file_stopped_opened g.met.T.TreeDisk.laws g.met.P.TreeDisk.laws c.store_laws.ensures means input configuration c.args.root.now c.read_config.new.root c.args.repo.now c.args.opened.now c.requires (refused_config c.args.way c.args.label.now c.args.given.now)
     c.read_config.result c.read_config.ensures c.in_err-config.field-0.0 (sym c.on_root.ensures ∙ c.in_err-config.was))
 
 pub returns-in_err-id-clause-opened : goal.returns-in_err-id-clause-opened
@@ -90,7 +90,7 @@ returns-in_err-id-clause-opened g c told input =
     let means = move c.args.way c.args.label.now c.args.given.now in
     let old = disks c.args.root.now c.args.repo.now c.args.opened.now in
     let new = disks c.read_config.new.root c.args.repo.now c.args.opened.now in
-    let configured = config_made g.T.TreeDisk.disk c.args.root.now c.read_config.new.root c.read_config.result c.read_config.ensures c.in_ok-config.config (sym c.on_root.ensures ∙ c.in_ok-config.was) in
+    let configured = file_made g.T.TreeDisk.disk c.args.root.now c.read_config.new.root c.read_config.result c.read_config.ensures c.in_ok-config.config (sym c.on_root.ensures ∙ c.in_ok-config.was) in
     err_is (AnswersByOpened g.T.TreeDisk.disk g.P.TreeDisk.disk means input old new) c.from_residual-in_err-id.result (failure_of_fault c.in_err-id.field-0.0) c.from_residual-in_err-id.ensures.1
     (meant_opened g.met.T.TreeDisk.laws g.met.P.TreeDisk.laws c.args.way c.args.label.now c.args.given.now input c.args.root.now c.read_config.new.root c.args.repo.now c.args.opened.now c.requires c.in_ok-config.config configured
     c.in_err-id.field-0.0 c.in_err-id.ensures)
@@ -100,7 +100,7 @@ returns-in_err-troves-clause-opened g c told input =
     let means = move c.args.way c.args.label.now c.args.given.now in
     let old = disks c.args.root.now c.args.repo.now c.args.opened.now in
     let new = disks c.read_config.new.root c.args.repo.now c.args.opened.now in
-    let configured = config_made g.T.TreeDisk.disk c.args.root.now c.read_config.new.root c.read_config.result c.read_config.ensures c.in_ok-config.config (sym c.on_root.ensures ∙ c.in_ok-config.was) in
+    let configured = file_made g.T.TreeDisk.disk c.args.root.now c.read_config.new.root c.read_config.result c.read_config.ensures c.in_ok-config.config (sym c.on_root.ensures ∙ c.in_ok-config.was) in
     let f = c.in_err-troves.field-0.0 in
     err_is (AnswersByOpened g.T.TreeDisk.disk g.P.TreeDisk.disk means input old new) c.from_residual-in_err-troves.result (failure_of_fault f) c.from_residual-in_err-troves.ensures.1
     (moved_opened g.met.T.TreeDisk.laws g.met.P.TreeDisk.laws c.args.way c.args.label.now c.args.given.now input c.args.root.now c.read_config.new.root c.args.repo.now c.args.opened.now c.requires c.in_ok-config.config configured
@@ -115,7 +115,7 @@ returns-in_err-set-clause-opened g c told input =
 
 pub returns-clause-opened : goal.returns-clause-opened
 returns-clause-opened g c told input =
-    let configured = config_made g.T.TreeDisk.disk c.args.root.now c.read_config.new.root c.read_config.result c.read_config.ensures c.in_ok-config.config (sym c.on_root.ensures ∙ c.in_ok-config.was) in
+    let configured = file_made g.T.TreeDisk.disk c.args.root.now c.read_config.new.root c.read_config.result c.read_config.ensures c.in_ok-config.config (sym c.on_root.ensures ∙ c.in_ok-config.was) in
     let mid = disks c.read_config.new.root c.args.repo.now c.args.opened.now in
     let new = disks c.read_config.new.root c.commit_set.new.repo c.commit_set.new.opened in
     committed_opened g.met.T.TreeDisk.laws g.met.P.TreeDisk.laws c.args.way c.args.label.now c.args.given.now input c.args.root.now c.read_config.new.root c.args.repo.now c.args.opened.now c.requires c.in_ok-config.config configured

@@ -8,7 +8,7 @@ use Rattle.cli_call.proofs.OpenedEnds.{contents_since, fault_whole, opened_conte
 use Rattle.cli_call.specs.cny-laws.Failures.{failure_of_fault}
 use Rattle.trove_spec.specs.AndThen.{EndsAs}
 use Rattle.cli_call.proofs.AfterReading.{performs_since}
-use Rattle.cli_call.proofs.ReadingEnds.{config_made, config_opened, config_stopped, config_stopped_opened, fault_ends, ready_on, root_read}
+use Rattle.cli_call.proofs.ReadingEnds.{configuration, fault_ends, file_made, file_opened, file_stopped, file_stopped_opened, ready_on, root_read}
 use Rattle.root_commands.specs.Update as update
 use Rattle.root_commands.specs.UpdateSpecs as spec
 use Rattle.root_commands.proofs.SpecEnds.{all_updated, none_meant, none_brought, refused_as, unbrought_on, unmeant_on, updated_on}
@@ -23,7 +23,7 @@ returns-in_err-config-clause-performs g c = λ input.
     let old = disks c.args.root.now c.args.repo.now c.args.opened.now in
     let mid = disks c.read_config.new.root c.args.repo.now c.args.opened.now in
     err_is (Performs g.T.TreeDisk.disk g.P.TreeDisk.disk meaning input old mid) c.from_residual.result c.in_err-config.field-0.0 c.from_residual.ensures.1
-    (config_stopped g.met.T.TreeDisk.laws g.met.P.TreeDisk.laws c.store_laws.ensures meaning input c.args.root.now c.read_config.new.root c.args.repo.now c.args.opened.now c.requires
+    (file_stopped g.met.T.TreeDisk.laws g.met.P.TreeDisk.laws c.store_laws.ensures meaning input configuration c.args.root.now c.read_config.new.root c.args.repo.now c.args.opened.now c.requires
     (λ s refused has. inr (record { refusal = refused; refused = has; is = refl }))
     c.read_config.result c.read_config.ensures c.in_err-config.field-0.0 (sym c.on_root.ensures ∙ c.in_err-config.was))
 
@@ -32,7 +32,7 @@ returns-in_err-ids-clause-performs g c = λ input.
     let meaning = spec.update_specs c.args.options.now c.args.resolve c.args.givens.now in
     let old = disks c.args.root.now c.args.repo.now c.args.opened.now in
     let mid = disks c.read_config.new.root c.args.repo.now c.args.opened.now in
-    let configured = config_made g.T.TreeDisk.disk c.args.root.now c.read_config.new.root c.read_config.result c.read_config.ensures c.in_ok-config.config (sym c.on_root.ensures ∙ c.in_ok-config.was) in
+    let configured = file_made g.T.TreeDisk.disk c.args.root.now c.read_config.new.root c.read_config.result c.read_config.ensures c.in_ok-config.config (sym c.on_root.ensures ∙ c.in_ok-config.was) in
     err_is (Performs g.T.TreeDisk.disk g.P.TreeDisk.disk meaning input old mid) c.from_residual-in_err-ids.result (failure_of_fault c.in_err-ids.field-0.0) c.from_residual-in_err-ids.ensures.1
     (fault_ends g.met.T.TreeDisk.laws g.met.P.TreeDisk.laws c.store_laws.ensures meaning input old mid c.requires
     (root_read g.met.T.TreeDisk.laws g.met.P.TreeDisk.laws c.args.root.now c.read_config.new.root c.args.repo.now c.args.opened.now configured.later configured.same) c.in_err-ids.field-0.0
@@ -44,7 +44,7 @@ returns-in_err-troves-clause-performs g c = λ input.
     let meaning = spec.update_specs c.args.options.now c.args.resolve c.args.givens.now in
     let old = disks c.args.root.now c.args.repo.now c.args.opened.now in
     let mid = disks c.read_config.new.root c.args.repo.now c.args.opened.now in
-    let configured = config_made g.T.TreeDisk.disk c.args.root.now c.read_config.new.root c.read_config.result c.read_config.ensures c.in_ok-config.config (sym c.on_root.ensures ∙ c.in_ok-config.was) in
+    let configured = file_made g.T.TreeDisk.disk c.args.root.now c.read_config.new.root c.read_config.result c.read_config.ensures c.in_ok-config.config (sym c.on_root.ensures ∙ c.in_ok-config.was) in
     err_is (Performs g.T.TreeDisk.disk g.P.TreeDisk.disk meaning input old mid) c.from_residual-in_err-troves.result (failure_of_fault c.in_err-troves.field-0.0) c.from_residual-in_err-troves.ensures.1
     (fault_ends g.met.T.TreeDisk.laws g.met.P.TreeDisk.laws c.store_laws.ensures meaning input old mid c.requires
     (root_read g.met.T.TreeDisk.laws g.met.P.TreeDisk.laws c.args.root.now c.read_config.new.root c.args.repo.now c.args.opened.now configured.later configured.same) c.in_err-troves.field-0.0
@@ -63,7 +63,7 @@ update_to-requires-clause-rising g c = no_carried
 
 pub update_to-requires-clause-ready : goal.update_to-requires-clause-ready
 update_to-requires-clause-ready g c =
-    let configured = config_made g.T.TreeDisk.disk c.args.root.now c.read_config.new.root c.read_config.result c.read_config.ensures c.in_ok-config.config (sym c.on_root.ensures ∙ c.in_ok-config.was) in
+    let configured = file_made g.T.TreeDisk.disk c.args.root.now c.read_config.new.root c.read_config.result c.read_config.ensures c.in_ok-config.config (sym c.on_root.ensures ∙ c.in_ok-config.was) in
     ready_on c.args.root.now c.read_config.new.root c.args.repo.now c.args.opened.now configured.same c.requires
 
 pub returns-clause-performs : goal.returns-clause-performs
@@ -71,7 +71,7 @@ returns-clause-performs g c = λ input.
     let old = disks c.args.root.now c.args.repo.now c.args.opened.now in
     let mid = disks c.read_config.new.root c.args.repo.now c.args.opened.now in
     let new = disks c.update_to.new.root c.update_to.new.repo c.update_to.new.opened in
-    let configured = config_made g.T.TreeDisk.disk c.args.root.now c.read_config.new.root c.read_config.result c.read_config.ensures c.in_ok-config.config (sym c.on_root.ensures ∙ c.in_ok-config.was) in
+    let configured = file_made g.T.TreeDisk.disk c.args.root.now c.read_config.new.root c.read_config.result c.read_config.ensures c.in_ok-config.config (sym c.on_root.ensures ∙ c.in_ok-config.was) in
     performs_since g.met.T.TreeDisk.laws g.met.P.TreeDisk.laws c.store_laws.ensures old mid new
     (root_read g.met.T.TreeDisk.laws g.met.P.TreeDisk.laws c.args.root.now c.read_config.new.root c.args.repo.now c.args.opened.now configured.later configured.same) c.update_to.result
     (update.update_to c.args.options.now [] c.in_ok-troves.troves) (spec.update_specs c.args.options.now c.args.resolve c.args.givens.now) input input
@@ -99,7 +99,7 @@ returns-in_err-config-clause-whole g c = λ input.
     let mid = disks c.read_config.new.root c.args.repo.now c.args.opened.now in
     err_is (AnswersByContents g.T.TreeDisk.disk g.P.TreeDisk.disk meaning input old mid) c.from_residual.result c.in_err-config.field-0.0 c.from_residual.ensures.1
     (opened_contents meaning input old mid (Err c.in_err-config.field-0.0)
-    (config_stopped_opened g.met.T.TreeDisk.laws g.met.P.TreeDisk.laws c.store_laws.ensures meaning input c.args.root.now c.read_config.new.root c.args.repo.now c.args.opened.now c.requires
+    (file_stopped_opened g.met.T.TreeDisk.laws g.met.P.TreeDisk.laws c.store_laws.ensures meaning input configuration c.args.root.now c.read_config.new.root c.args.repo.now c.args.opened.now c.requires
     (λ s refused has. inr (record { refusal = refused; refused = has; is = refl }))
     c.read_config.result c.read_config.ensures c.in_err-config.field-0.0 (sym c.on_root.ensures ∙ c.in_err-config.was)))
 
@@ -108,10 +108,10 @@ returns-in_err-ids-clause-whole g c = λ input.
     let meaning = spec.update_specs c.args.options.now c.args.resolve c.args.givens.now in
     let old = disks c.args.root.now c.args.repo.now c.args.opened.now in
     let mid = disks c.read_config.new.root c.args.repo.now c.args.opened.now in
-    let configured = config_made g.T.TreeDisk.disk c.args.root.now c.read_config.new.root c.read_config.result c.read_config.ensures c.in_ok-config.config (sym c.on_root.ensures ∙ c.in_ok-config.was) in
+    let configured = file_made g.T.TreeDisk.disk c.args.root.now c.read_config.new.root c.read_config.result c.read_config.ensures c.in_ok-config.config (sym c.on_root.ensures ∙ c.in_ok-config.was) in
     err_is (AnswersByContents g.T.TreeDisk.disk g.P.TreeDisk.disk meaning input old mid) c.from_residual-in_err-ids.result (failure_of_fault c.in_err-ids.field-0.0) c.from_residual-in_err-ids.ensures.1
     (fault_whole g.met.T.TreeDisk.laws meaning input old mid c.requires configured.same (λ told. refl) c.in_err-ids.field-0.0
-    (λ refused is told s has. unmeant_on s c.args.opened.now.catalogue.troves c.args.opened.now.db.installed (ap (λ (k : CatalogueParts). k.troves) (sym has.catalogue)) (ap (λ (d : Db). d.installed) (sym has.database)) c.args.options.now c.args.resolve c.args.givens.now c.in_ok-config.config (config_opened c.args.root.now c.args.opened.now (Ok c.in_ok-config.config) (configured.ends told) s has) refused
+    (λ refused is told s has. unmeant_on s c.args.opened.now.catalogue.troves c.args.opened.now.db.installed (ap (λ (k : CatalogueParts). k.troves) (sym has.catalogue)) (ap (λ (d : Db). d.installed) (sym has.database)) c.args.options.now c.args.resolve c.args.givens.now c.in_ok-config.config (file_opened configuration c.args.root.now c.args.opened.now (Ok c.in_ok-config.config) (configured.ends told) s has) refused
     (refused_as (spec.MeanAll c.args.opened.now.catalogue.troves c.in_ok-config.config c.args.givens.now) c.in_err-ids.field-0.0 c.in_err-ids.ensures refused is)))
 
 pub returns-in_err-troves-clause-whole : goal.returns-in_err-troves-clause-whole
@@ -119,10 +119,10 @@ returns-in_err-troves-clause-whole g c = λ input.
     let meaning = spec.update_specs c.args.options.now c.args.resolve c.args.givens.now in
     let old = disks c.args.root.now c.args.repo.now c.args.opened.now in
     let mid = disks c.read_config.new.root c.args.repo.now c.args.opened.now in
-    let configured = config_made g.T.TreeDisk.disk c.args.root.now c.read_config.new.root c.read_config.result c.read_config.ensures c.in_ok-config.config (sym c.on_root.ensures ∙ c.in_ok-config.was) in
+    let configured = file_made g.T.TreeDisk.disk c.args.root.now c.read_config.new.root c.read_config.result c.read_config.ensures c.in_ok-config.config (sym c.on_root.ensures ∙ c.in_ok-config.was) in
     err_is (AnswersByContents g.T.TreeDisk.disk g.P.TreeDisk.disk meaning input old mid) c.from_residual-in_err-troves.result (failure_of_fault c.in_err-troves.field-0.0) c.from_residual-in_err-troves.ensures.1
     (fault_whole g.met.T.TreeDisk.laws meaning input old mid c.requires configured.same (λ told. refl) c.in_err-troves.field-0.0
-    (λ refused is told s has. unbrought_on s c.args.opened.now.catalogue.troves c.args.opened.now.db.installed (ap (λ (k : CatalogueParts). k.troves) (sym has.catalogue)) (ap (λ (d : Db). d.installed) (sym has.database)) c.args.options.now c.args.resolve c.args.givens.now c.in_ok-config.config (config_opened c.args.root.now c.args.opened.now (Ok c.in_ok-config.config) (configured.ends told) s has) c.in_ok-ids.ids c.in_ok-ids.ensures refused
+    (λ refused is told s has. unbrought_on s c.args.opened.now.catalogue.troves c.args.opened.now.db.installed (ap (λ (k : CatalogueParts). k.troves) (sym has.catalogue)) (ap (λ (d : Db). d.installed) (sym has.database)) c.args.options.now c.args.resolve c.args.givens.now c.in_ok-config.config (file_opened configuration c.args.root.now c.args.opened.now (Ok c.in_ok-config.config) (configured.ends told) s has) c.in_ok-ids.ids c.in_ok-ids.ensures refused
     (refused_as (spec.BringAll c.args.resolve c.args.opened.now.catalogue.troves c.args.opened.now.db.installed c.in_ok-config.config c.in_ok-ids.ids) c.in_err-troves.field-0.0
     (subst (λ (ids : List TroveId). EndsAs (spec.BringAll c.args.resolve c.args.opened.now.catalogue.troves c.args.opened.now.db.installed c.in_ok-config.config ids) (Err c.in_err-troves.field-0.0)) c.get.ensures c.in_err-troves.ensures.ends) refused is)))
 
@@ -131,8 +131,8 @@ returns-clause-whole g c = λ input.
     let old = disks c.args.root.now c.args.repo.now c.args.opened.now in
     let mid = disks c.read_config.new.root c.args.repo.now c.args.opened.now in
     let new = disks c.update_to.new.root c.update_to.new.repo c.update_to.new.opened in
-    let configured = config_made g.T.TreeDisk.disk c.args.root.now c.read_config.new.root c.read_config.result c.read_config.ensures c.in_ok-config.config (sym c.on_root.ensures ∙ c.in_ok-config.was) in
+    let configured = file_made g.T.TreeDisk.disk c.args.root.now c.read_config.new.root c.read_config.result c.read_config.ensures c.in_ok-config.config (sym c.on_root.ensures ∙ c.in_ok-config.was) in
     contents_since g.met.T.TreeDisk.laws (update.update_to c.args.options.now [] c.in_ok-troves.troves) (spec.update_specs c.args.options.now c.args.resolve c.args.givens.now) input input old mid new c.update_to.result c.requires
     (root_read g.met.T.TreeDisk.laws g.met.P.TreeDisk.laws c.args.root.now c.read_config.new.root c.args.repo.now c.args.opened.now configured.later configured.same) refl
-    (λ told s has outcome is. updated_on s c.args.opened.now.catalogue.troves c.args.opened.now.db.installed (ap (λ (k : CatalogueParts). k.troves) (sym has.catalogue)) (ap (λ (d : Db). d.installed) (sym has.database)) c.args.options.now c.args.resolve c.args.givens.now c.in_ok-config.config (config_opened c.args.root.now c.args.opened.now (Ok c.in_ok-config.config) (configured.ends told) s has) c.in_ok-ids.ids c.in_ok-ids.ensures c.in_ok-troves.troves (rw c.get.ensures at c.in_ok-troves.ensures.ends) outcome is)
+    (λ told s has outcome is. updated_on s c.args.opened.now.catalogue.troves c.args.opened.now.db.installed (ap (λ (k : CatalogueParts). k.troves) (sym has.catalogue)) (ap (λ (d : Db). d.installed) (sym has.database)) c.args.options.now c.args.resolve c.args.givens.now c.in_ok-config.config (file_opened configuration c.args.root.now c.args.opened.now (Ok c.in_ok-config.config) (configured.ends told) s has) c.in_ok-ids.ids c.in_ok-ids.ensures c.in_ok-troves.troves (rw c.get.ensures at c.in_ok-troves.ensures.ends) outcome is)
     (rw c.get-2.ensures at c.update_to.ensures.whole input)

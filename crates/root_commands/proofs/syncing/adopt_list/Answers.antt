@@ -14,7 +14,7 @@ use Rattle.cli_call.proofs.system-core.Managed.{KeepsOut}
 use Rattle.root_commands.proofs.SpecifiedEnds.{reads_refused}
 use Rattle.root_commands.proofs.WholeJobs.{failed_whole, told_whole, untold_whole, whole_at}
 use Rattle.local_db.proofs.cny-base.Passing.{err_is}
-use Rattle.cli_call.proofs.CommandLaws.{read_at}
+use Rattle.cli_call.proofs.CommandLaws.{read_lent}
 use Rattle.root_commands.proofs.syncing.adopt_list.Goals as goal
 
 pub returns-in_err-done-clause-performs : goal.returns-in_err-done-clause-performs
@@ -124,31 +124,13 @@ returns-clause-again g c =
     subst (λ repo. AreReady g.T.TreeDisk.disk g.P.TreeDisk.disk (disks root' repo opened')) after (ready_far root' far.disk.now far'.disk.now opened' c.adopt.ensures.searches.searched.same changed)
 
 pub returns-in_err-done-clause-repo_read : goal.returns-in_err-done-clause-repo_read
-returns-in_err-done-clause-repo_read g c =
-    let far = c.new-far.result in
-    let far' = c.adopt.new.far in
-    let name = c.adopt.ensures.searches.searched.same_disk ∙ c.new-far.ensures.same_disk in
-    let given = c.repo-1.given in
-    let after : far'.disk.now ≡ c.repo-1.given.0 = search rules in
-    read_at far.disk.now c.args.repo.now far'.disk.now c.repo-1.given.0 c.new-far.ensures.disk after c.adopt.ensures.searches.searched.same
+returns-in_err-done-clause-repo_read g c = read_lent c.new-far.result.disk.now c.adopt.new.far.disk.now c.new-far.ensures.disk (c.adopt.ensures.searches.searched.same_disk ∙ c.new-far.ensures.same_disk) c.repo-1.given.1 c.adopt.ensures.searches.searched.same
 
 pub returns-in_err-changes_text-clause-repo_read : goal.returns-in_err-changes_text-clause-repo_read
-returns-in_err-changes_text-clause-repo_read g c =
-    let far = c.new-far.result in
-    let far' = c.adopt.new.far in
-    let name = c.adopt.ensures.searches.searched.same_disk ∙ c.new-far.ensures.same_disk in
-    let given = c.repo-1.given in
-    let after : far'.disk.now ≡ c.repo-1.given.0 = search rules in
-    read_at far.disk.now c.args.repo.now far'.disk.now c.repo-1.given.0 c.new-far.ensures.disk after c.adopt.ensures.searches.searched.same
+returns-in_err-changes_text-clause-repo_read g c = read_lent c.new-far.result.disk.now c.adopt.new.far.disk.now c.new-far.ensures.disk (c.adopt.ensures.searches.searched.same_disk ∙ c.new-far.ensures.same_disk) c.repo-1.given.1 c.adopt.ensures.searches.searched.same
 
 pub returns-clause-repo_read : goal.returns-clause-repo_read
-returns-clause-repo_read g c =
-    let far = c.new-far.result in
-    let far' = c.adopt.new.far in
-    let name = c.adopt.ensures.searches.searched.same_disk ∙ c.new-far.ensures.same_disk in
-    let given = c.repo-1.given in
-    let after : far'.disk.now ≡ c.repo-1.given.0 = search rules in
-    read_at far.disk.now c.args.repo.now far'.disk.now c.repo-1.given.0 c.new-far.ensures.disk after c.adopt.ensures.searches.searched.same
+returns-clause-repo_read g c = read_lent c.new-far.result.disk.now c.adopt.new.far.disk.now c.new-far.ensures.disk (c.adopt.ensures.searches.searched.same_disk ∙ c.new-far.ensures.same_disk) c.repo-1.given.1 c.adopt.ensures.searches.searched.same
 
 -- ---- by what was read when the disks were opened, and the contents that stand whole
 

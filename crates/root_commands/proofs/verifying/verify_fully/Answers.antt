@@ -7,7 +7,7 @@ use Rattle.root_commands.specs.Verifying as spec
 use Rattle.root_commands.proofs.FullEnds.{failed_performs, failed_whole, memory_performs, memory_whole, performed_at, ready_at, told_performs, told_whole, VerifyingLaws}
 use Rattle.root_commands.proofs.WholeJobs.{whole_at}
 use Rattle.local_db.proofs.cny-base.Passing.{err_is}
-use Rattle.cli_call.proofs.CommandLaws.{read_at}
+use Rattle.cli_call.proofs.CommandLaws.{read_lent}
 use Rattle.root_commands.proofs.verifying.verify_fully.Goals as goal
 
 pub returns-in_err-found-clause-performs : goal.returns-in_err-found-clause-performs
@@ -87,31 +87,13 @@ pub returns-clause-root_read : goal.returns-clause-root_read
 returns-clause-root_read g c = c.verify.ensures.verified.same
 
 pub returns-in_err-found-clause-repo_read : goal.returns-in_err-found-clause-repo_read
-returns-in_err-found-clause-repo_read g c =
-    let far = c.new-contents.result in
-    let far' = c.verify.new.far in
-    let name = c.verify.ensures.verified.keeps.searched.same_disk ∙ c.new-contents.ensures.same_disk in
-    let given = c.repo-1.given in
-    let after : far'.disk.now ≡ c.repo-1.given.0 = search rules in
-    read_at far.disk.now c.args.repo.now far'.disk.now c.repo-1.given.0 c.new-contents.ensures.disk after c.verify.ensures.verified.keeps.searched.same
+returns-in_err-found-clause-repo_read g c = read_lent c.new-contents.result.disk.now c.verify.new.far.disk.now c.new-contents.ensures.disk (c.verify.ensures.verified.keeps.searched.same_disk ∙ c.new-contents.ensures.same_disk) c.repo-1.given.1 c.verify.ensures.verified.keeps.searched.same
 
 pub returns-in_err-verified_text-clause-repo_read : goal.returns-in_err-verified_text-clause-repo_read
-returns-in_err-verified_text-clause-repo_read g c =
-    let far = c.new-contents.result in
-    let far' = c.verify.new.far in
-    let name = c.verify.ensures.verified.keeps.searched.same_disk ∙ c.new-contents.ensures.same_disk in
-    let given = c.repo-1.given in
-    let after : far'.disk.now ≡ c.repo-1.given.0 = search rules in
-    read_at far.disk.now c.args.repo.now far'.disk.now c.repo-1.given.0 c.new-contents.ensures.disk after c.verify.ensures.verified.keeps.searched.same
+returns-in_err-verified_text-clause-repo_read g c = read_lent c.new-contents.result.disk.now c.verify.new.far.disk.now c.new-contents.ensures.disk (c.verify.ensures.verified.keeps.searched.same_disk ∙ c.new-contents.ensures.same_disk) c.repo-1.given.1 c.verify.ensures.verified.keeps.searched.same
 
 pub returns-clause-repo_read : goal.returns-clause-repo_read
-returns-clause-repo_read g c =
-    let far = c.new-contents.result in
-    let far' = c.verify.new.far in
-    let name = c.verify.ensures.verified.keeps.searched.same_disk ∙ c.new-contents.ensures.same_disk in
-    let given = c.repo-1.given in
-    let after : far'.disk.now ≡ c.repo-1.given.0 = search rules in
-    read_at far.disk.now c.args.repo.now far'.disk.now c.repo-1.given.0 c.new-contents.ensures.disk after c.verify.ensures.verified.keeps.searched.same
+returns-clause-repo_read g c = read_lent c.new-contents.result.disk.now c.verify.new.far.disk.now c.new-contents.ensures.disk (c.verify.ensures.verified.keeps.searched.same_disk ∙ c.new-contents.ensures.same_disk) c.repo-1.given.1 c.verify.ensures.verified.keeps.searched.same
 
 -- by what was read when the disks were opened, and the contents that stand whole
 pub returns-in_err-found-clause-whole : goal.returns-in_err-found-clause-whole

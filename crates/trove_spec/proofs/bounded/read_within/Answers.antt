@@ -5,7 +5,7 @@ use Rattle.tree_disk.specs.Rows.{bytes_at}
 use Rattle.tree_disk.proofs.StepLaws.{tests_refuse, tests_value}
 use Rattle.tree_disk.specs.Steps.{Tests}
 use Rattle.trove_spec.proofs.Sizes.{none_larger}
-use Rattle.sys_model.proofs.reading.read_within.Goals as goal
+use Rattle.trove_spec.proofs.bounded.read_within.Goals as goal
 
 pub returns-in-None-clause-tests : goal.returns-in-None-clause-tests
 returns-in-None-clause-tests g c =
