@@ -15,8 +15,7 @@ use Rattle.repo_load.specs.Files.{repository_base}
 use Rattle.cny_laws.specs.declared.failure.Failure.{Failure}
 use Rattle.cny_laws.specs.declared.opened.Opened.{Opened}
 use Rattle.cny_laws.specs.Call.{CallState, OpensRoot, OpensRepository, AreOpened, NotOpened}
-use Rattle.cli_call.specs.Runs.{StopsReading, RunsWith, RunsCall}
-use Rattle.cli_call.specs.Command.{disks}
+use Rattle.cli_call.specs.Runs.{RunsCall, RunsWith, StopsReading, after_opening, at_end}
 use Rattle.cny_laws.specs.Report.{ChangesNothing, End}
 use Rattle.cny_laws.specs.system-core.FixedDirs.{fixed_dirs}
 use Rattle.cli_call.specs.Line.{Moment, LineCause, RunsLine}
@@ -106,12 +105,6 @@ module _ {T P : Type 0} {root_disk : DiskModel T} {repo_disk : DiskModel P} (roo
   -- ---- both were opened
 
   module _ (root : T) (repo : P) (opened opened' : Opened) (opens : AreOpened root_disk repo_disk before.root root before.repo repo opened) where
-    abbrev mid : Moment T P
-    mid = record { at = disks root repo opened; out = before.out }
-
-    abbrev last : Moment T P
-    last = record { at = disks now.root now.repo opened'; out = now.out }
-
     open_root_untouched : IsTrue root_disk.tells → RecoversToNone root_store.base (root_disk.reads before.root) → Confined root_disk (Among no_name) before.root now.root
     open_root_untouched told none = absurd (none (opens.opens_root.opened told).reached.recovered (opens.opens_root.opened told).reached.recovers)
 
@@ -138,7 +131,7 @@ module _ {T P : Type 0} {root_disk : DiskModel T} {repo_disk : DiskModel P} (roo
     unread_cause m failure.Memory reads silent = keeps_still before.out now.out silent
     unread_cause m _ reads silent = absurd reads.cause
 
-    unread_facts : (m : Meaning) (e : Failure) → ReadsGiven m.takes_input before.input now.input (Err e) → last ≡ mid → CallFacts root_disk repo_disk before now (Err e)
+    unread_facts : (m : Meaning) (e : Failure) → ReadsGiven m.takes_input before.input now.input (Err e) → at_end root_disk repo_disk now opened' ≡ after_opening root_disk repo_disk before root repo opened → CallFacts root_disk repo_disk before now (Err e)
     unread_facts m e reads same =
         let silent : now.out ≡ before.out = ap (λ (x : Moment T P). x.out) same in
         let same_root : now.root ≡ root = ap (λ (x : Moment T P). x.at.root) same in
@@ -162,7 +155,7 @@ module _ {T P : Type 0} {root_disk : DiskModel T} {repo_disk : DiskModel P} (roo
 
     -- the command was performed
 
-    run_cause : (end : End) → LineCause root_disk repo_disk mid last end → CallCause root_disk repo_disk before now end
+    run_cause : (end : End) → LineCause root_disk repo_disk (after_opening root_disk repo_disk before root repo opened) (at_end root_disk repo_disk now opened') end → CallCause root_disk repo_disk before now end
     run_cause (Ok x) h = tt
     run_cause (Err failure.RootFault) h = (rose_before (root_disk.faults before.root) (root_disk.faults root) (root_disk.faults now.root) opens.opens_root.later h.0, h.1)
     run_cause (Err failure.RepositoryFault) h = (rose_before (repo_disk.faults before.repo) (repo_disk.faults repo) (repo_disk.faults now.repo) opens.opens.later h.0, h.1)
@@ -170,7 +163,7 @@ module _ {T P : Type 0} {root_disk : DiskModel T} {repo_disk : DiskModel P} (roo
     run_cause (Err failure.InputFault) h = absurd h
     run_cause _ h = h
 
-    run_facts : (scope : Scope) (m : Meaning) (bytes : List ℕ) (end : End) → ReadsGiven m.takes_input before.input now.input (Ok bytes) → RunsLine root_disk repo_disk scope m bytes mid last end → CallFacts root_disk repo_disk before now end
+    run_facts : (scope : Scope) (m : Meaning) (bytes : List ℕ) (end : End) → ReadsGiven m.takes_input before.input now.input (Ok bytes) → RunsLine root_disk repo_disk scope m bytes (after_opening root_disk repo_disk before root repo opened) (at_end root_disk repo_disk now opened') end → CallFacts root_disk repo_disk before now end
     run_facts scope m bytes end reads runs = record {
       later = record {
         input = reads.later;
@@ -186,7 +179,7 @@ module _ {T P : Type 0} {root_disk : DiskModel T} {repo_disk : DiskModel P} (roo
       missing = open_missing;
     }
 
-    pub open_facts : (scope : Scope) (m : Meaning) (end : End) → StopsReading root_disk repo_disk m before.input now.input mid last end ⊎ RunsWith root_disk repo_disk scope m before.input now.input mid last end → CallFacts root_disk repo_disk before now end
+    pub open_facts : (scope : Scope) (m : Meaning) (end : End) → StopsReading root_disk repo_disk m before.input now.input (after_opening root_disk repo_disk before root repo opened) (at_end root_disk repo_disk now opened') end ⊎ RunsWith root_disk repo_disk scope m before.input now.input (after_opening root_disk repo_disk before root repo opened) (at_end root_disk repo_disk now opened') end → CallFacts root_disk repo_disk before now end
     open_facts scope m end how = ⊎_elim
         (λ stops. subst (λ (x : End). CallFacts root_disk repo_disk before now x) (sym stops.is) (unread_facts m stops.failure stops.reads stops.same))
         (λ runs. run_facts scope m runs.bytes end runs.reads runs.runs)

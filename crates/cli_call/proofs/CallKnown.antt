@@ -11,11 +11,10 @@ use Rattle.cny_laws.specs.declared.failure.Failure.{Failure}
 use Rattle.cny_laws.specs.declared.failure.Failure.TheVariants as failure
 use Rattle.cny_laws.specs.declared.opened.Opened.{Opened}
 use Rattle.cny_laws.specs.Call.{CallState, AreOpened, FilesStay, HasOpened, NotOpened}
-use Rattle.cli_call.specs.Runs.{StopsReading, RunsWith, RunsOpen, RunsCall}
+use Rattle.cli_call.specs.Runs.{RunsCall, RunsOpen, RunsWith, StopsReading, after_opening, at_end}
 use Rattle.cny_laws.specs.WholeCall.{CallFrom, EndsByOpened, FromStates, IsOnRepository, IsOnRoot, CallReaches}
 use Rattle.cli_call.proofs.CallEnds.{own_ends, own_unread}
 use Rattle.cli_call.proofs.CallStates.{from_unopened, from_unread, from_run}
-use Rattle.cli_call.specs.Command.{disks}
 use Rattle.cli_call.proofs.InputLaws.{any_input, read_input_of}
 use Rattle.cli_call.proofs.OpenedEnds.{files_kept, moments_read, opened_holds}
 use Rattle.cli_call.specs.Line.{LineByOpened, LineCause, Moment}
@@ -63,14 +62,8 @@ module _ {T P : Type 0} {root_disk : DiskModel T} {repo_disk : DiskModel P} (roo
       }
 
   module _ (root : T) (repo : P) (opened opened' : Opened) (opens : AreOpened root_disk repo_disk before.root root before.repo repo opened) where
-    abbrev begun : Moment T P
-    begun = record { at = disks root repo opened; out = before.out }
-
-    abbrev ended : Moment T P
-    ended = record { at = disks now.root now.repo opened'; out = now.out }
-
     -- on a state that has what was read when the disks were opened
-    unread_opened : (input : List ℕ) {end : End} (stops : StopsReading root_disk repo_disk m before.input now.input begun ended end) → now.root ≡ root → now.repo ≡ repo → Gives m.takes_input input (Err stops.failure) → (s : State) → HasOpened root_disk root opened s
+    unread_opened : (input : List ℕ) {end : End} (stops : StopsReading root_disk repo_disk m before.input now.input (after_opening root_disk repo_disk before root repo opened) (at_end root_disk repo_disk now opened') end) → now.root ≡ root → now.repo ≡ repo → Gives m.takes_input input (Err stops.failure) → (s : State) → HasOpened root_disk root opened s
         → EndsByOpened root_disk repo_disk m input s root before now (Err stops.failure)
     unread_opened input stops same_root same_repo gives s has = record {
       next = s;
@@ -81,7 +74,7 @@ module _ {T P : Type 0} {root_disk : DiskModel T} {repo_disk : DiskModel P} (roo
           moments_read root now.root opened at.settled.flag_clear at.settled.synced at.holds (subst (λ (d : T). HasRead root_disk root d (Unit {0})) (sym same_root) (nothing_done root_laws root)) root_laws s s has;
     }
 
-    known_unread : (end : End) → StopsReading root_disk repo_disk m before.input now.input begun ended end → CallKnown root_disk repo_disk scope m before now end
+    known_unread : (end : End) → StopsReading root_disk repo_disk m before.input now.input (after_opening root_disk repo_disk before root repo opened) (at_end root_disk repo_disk now opened') end → CallKnown root_disk repo_disk scope m before now end
     known_unread end stops =
         let read = read_input_of m.takes_input before.input now.input (Err stops.failure) stops.reads in
         let same_root : now.root ≡ root = ap (λ (x : Moment T P). x.at.root) stops.same in
@@ -128,10 +121,10 @@ module _ {T P : Type 0} {root_disk : DiskModel T} {repo_disk : DiskModel P} (roo
         } in
         subst (λ (x : End). CallKnown root_disk repo_disk scope m before now x) (sym stops.is) known
 
-    run_opened : (input bytes : List ℕ) (end : End) → given m.takes_input input ≡ Ok bytes → (s : State) → LineByOpened root_disk repo_disk (m.IsOutcome s bytes) s begun ended end → EndsByOpened root_disk repo_disk m input s root before now end
+    run_opened : (input bytes : List ℕ) (end : End) → given m.takes_input input ≡ Ok bytes → (s : State) → LineByOpened root_disk repo_disk (m.IsOutcome s bytes) s (after_opening root_disk repo_disk before root repo opened) (at_end root_disk repo_disk now opened') end → EndsByOpened root_disk repo_disk m input s root before now end
     run_opened input bytes end gives s by = record { next = by.next; ends = own_ends m s input bytes gives before.out now.out by.next end by.ends; holds = by.holds; moments = by.moments }
 
-    known_run : (end : End) → RunsWith root_disk repo_disk scope m before.input now.input begun ended end → CallKnown root_disk repo_disk scope m before now end
+    known_run : (end : End) → RunsWith root_disk repo_disk scope m before.input now.input (after_opening root_disk repo_disk before root repo opened) (at_end root_disk repo_disk now opened') end → CallKnown root_disk repo_disk scope m before now end
     known_run end runs =
         let read = read_input_of m.takes_input before.input now.input (Ok runs.bytes) runs.reads in
         record {
@@ -154,7 +147,7 @@ module _ {T P : Type 0} {root_disk : DiskModel T} {repo_disk : DiskModel P} (roo
             repo_rests = λ small. (runs.runs.rest small).repo;
             root_damaged = λ is. (runs.runs.alone is).damaged;
             repo_damaged = λ is. (runs.runs.apart is).damaged;
-            damaged = λ path is. (subst (λ (x : End). LineCause root_disk repo_disk begun ended x) is runs.runs.cause).0;
+            damaged = λ path is. (subst (λ (x : End). LineCause root_disk repo_disk (after_opening root_disk repo_disk before root repo opened) (at_end root_disk repo_disk now opened') x) is runs.runs.cause).0;
             by_lists = λ is. let by = runs.runs.by_lists is in (by.root, by.repo, λ s has. own_ends m s read.input runs.bytes read.gives before.out now.out s end (by.ends s has));
             by_tree = λ is told s has. own_ends m s read.input runs.bytes read.gives before.out now.out s end (runs.runs.by_tree is told s has);
             by_opened = λ is told repo_told s has. run_opened read.input runs.bytes end read.gives s (runs.runs.by_opened is told repo_told s has);
@@ -176,7 +169,7 @@ module _ {T P : Type 0} {root_disk : DiskModel T} {repo_disk : DiskModel P} (roo
               };
         }
 
-    known_open : (end : End) → RunsOpen root_disk repo_disk scope m before.input now.input begun ended end → CallKnown root_disk repo_disk scope m before now end
+    known_open : (end : End) → RunsOpen root_disk repo_disk scope m before.input now.input (after_opening root_disk repo_disk before root repo opened) (at_end root_disk repo_disk now opened') end → CallKnown root_disk repo_disk scope m before now end
     known_open end (inl stops) = known_unread end stops
     known_open end (inr runs) = known_run end runs
 

@@ -15,9 +15,9 @@ use Rattle.cny_laws.specs.declared.opened.Opened.{Opened}
 use Rattle.cny_laws.specs.Call.{CallState, OpensRoot, OpensRepository, AreOpened, NotOpened, StopsForRoot}
 use Rattle.cny_laws.specs.WholeCall.{CallEnds, Outcome, RecoversBoth, CallFrom}
 use Rattle.cli_call.proofs.CallEnds.{small, no_root_effect, no_repo_effect, no_unread_effect, outcome_of, read_left, run_ends, shown_so, unread_ends, unread_left}
-use Rattle.cli_call.specs.Command.{disks}
 use Rattle.cny_laws.specs.Shown.{IsShown, KeepsOthers}
 use Rattle.cny_laws.specs.system-core.FixedDirs.{fixed_dirs}
+use Rattle.cli_call.specs.Runs.{after_opening, at_end}
 use Rattle.cli_call.specs.Line.{Moment, RunsLine}
 use Rattle.cny_laws.specs.Reading.{given, Gives, ReadsGiven}
 use Rattle.cny_laws.specs.Report.{End, status_of}
@@ -117,12 +117,6 @@ module _ {T P : Type 0} {root_disk : DiskModel T} {repo_disk : DiskModel P} (roo
   -- ---- both were opened
 
   module _ (root : T) (repo : P) (opened opened' : Opened) (opens : AreOpened root_disk repo_disk before.root root before.repo repo opened) where
-    abbrev mid_ : Moment T P
-    mid_ = record { at = disks root repo opened; out = before.out }
-
-    abbrev last_ : Moment T P
-    last_ = record { at = disks now.root now.repo opened'; out = now.out }
-
     fixed : fixed_dirs (tree_of s.root) ≡ Ok tt
     fixed = fixed_state root_disk_laws before root_told s recovers.root root opened.db (opens.opens_root.opened root_told)
 
@@ -134,7 +128,7 @@ module _ {T P : Type 0} {root_disk : DiskModel T} {repo_disk : DiskModel P} (roo
 
     -- the input wasn't read
 
-    pub from_unread : (e : Failure) → ReadsGiven m.takes_input before.input now.input (Err e) → Gives m.takes_input input (Err e) → last_ ≡ mid_ → CallFrom root_disk repo_disk m input s before now (Err e)
+    pub from_unread : (e : Failure) → ReadsGiven m.takes_input before.input now.input (Err e) → Gives m.takes_input input (Err e) → at_end root_disk repo_disk now opened' ≡ after_opening root_disk repo_disk before root repo opened → CallFrom root_disk repo_disk m input s before now (Err e)
     from_unread e reads gives same =
         let same_root : now.root ≡ root = ap (λ (x : Moment T P). x.at.root) same in
         let same_repo : now.repo ≡ repo = ap (λ (x : Moment T P). x.at.repo) same in
@@ -171,7 +165,7 @@ module _ {T P : Type 0} {root_disk : DiskModel T} {repo_disk : DiskModel P} (roo
     -- the command was performed
 
     module _ (bytes : List ℕ) (reads : ReadsGiven m.takes_input before.input now.input (Ok bytes)) (gives : given m.takes_input input ≡ Ok bytes) where
-      pub from_run : (end : End) → RunsLine root_disk repo_disk scope m bytes mid_ last_ end → CallFrom root_disk repo_disk m input s before now end
+      pub from_run : (end : End) → RunsLine root_disk repo_disk scope m bytes (after_opening root_disk repo_disk before root repo opened) (at_end root_disk repo_disk now opened') end → CallFrom root_disk repo_disk m input s before now end
       from_run end runs =
           let f = runs.told root_told repo_told s (record { root = root_rests; repo = repo_rests }) in
           let others : KeepsOthers (Outcome m s input) s (root_disk.reads root) (root_disk.reads now.root) = λ q out left.

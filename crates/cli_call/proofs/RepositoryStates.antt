@@ -11,10 +11,10 @@ use Rattle.std.specs.Prelude.{IsTrue}
 use Rattle.cny_laws.specs.system-core.tree-disk.Confined.{LeavesOnly}
 use Rattle.cny_laws.proofs.system-core.tree-disk.ConfinedLaws.{leaves_weaker}
 use Rattle.cny_laws.specs.State.{Meaning, Scope, State}
+use Rattle.cli_call.specs.Runs.{after_opening, at_end}
 use Rattle.cli_call.specs.Line.{Moment, RunsLine}
 use Rattle.cny_laws.specs.system-core.tree-journal.Recovery.{RecoversAsThen}
 use Rattle.cny_laws.specs.system-core.cny-base.declared.stop.Stop.{Stop}
-use Rattle.cli_call.specs.Command.{disks}
 use Rattle.cli_call.proofs.StoreLaws.{kept_recovers, never_damaged, none_yet, nothing_done, opened_rests, rest_lives, rest_reads}
 use Rattle.cny_laws.proofs.system-core.Opened.{never_blocked}
 use Rattle.cny_laws.specs.declared.failure.Failure.{Failure}
@@ -75,17 +75,11 @@ module _ {T P : Type 0} {root_disk : DiskModel T} {repo_disk : DiskModel P} (rep
   -- ---- both were opened
 
   module _ (root : T) (repo : P) (opened opened' : Opened) (opens : AreOpened root_disk repo_disk before.root root before.repo repo opened) where
-    abbrev from_ : Moment T P
-    from_ = record { at = disks root repo opened; out = before.out }
-
-    abbrev to_ : Moment T P
-    to_ = record { at = disks now.root now.repo opened'; out = now.out }
-
     repo_rests : RestsAt repository_store repo_disk repo s.repository
     repo_rests = opened_rests repo_laws before.repo repo opened.catalogue s.repository (opens.opens.opened repo_told) recovers
 
     -- the input wasn't read
-    pub repository_unread : (e : Failure) → ReadsGiven m.takes_input before.input now.input (Err e) → Gives m.takes_input input (Err e) → to_ ≡ from_ → CallOnRepository root_disk repo_disk m input s before now (Err e)
+    pub repository_unread : (e : Failure) → ReadsGiven m.takes_input before.input now.input (Err e) → Gives m.takes_input input (Err e) → at_end root_disk repo_disk now opened' ≡ after_opening root_disk repo_disk before root repo opened → CallOnRepository root_disk repo_disk m input s before now (Err e)
     repository_unread e reads gives same =
         let same_repo : now.repo ≡ repo = ap (λ (x : Moment T P). x.at.repo) same in
         record {
@@ -106,7 +100,7 @@ module _ {T P : Type 0} {root_disk : DiskModel T} {repo_disk : DiskModel P} (rep
         }
 
     -- the command was performed
-    pub repository_run : (bytes : List ℕ) → given m.takes_input input ≡ Ok bytes → scope.of_repository ≡ true → (end : End) → RunsLine root_disk repo_disk scope m bytes from_ to_ end → CallOnRepository root_disk repo_disk m input s before now end
+    pub repository_run : (bytes : List ℕ) → given m.takes_input input ≡ Ok bytes → scope.of_repository ≡ true → (end : End) → RunsLine root_disk repo_disk scope m bytes (after_opening root_disk repo_disk before root repo opened) (at_end root_disk repo_disk now opened') end → CallOnRepository root_disk repo_disk m input s before now end
     repository_run bytes gives is end runs =
         let f = (runs.apart is).told repo_told s repo_rests in
         let after : State = record { root = s.root; repository = f.next } in

@@ -17,10 +17,10 @@ use Rattle.cny_laws.specs.declared.opened.Opened.{Opened}
 use Rattle.cny_laws.specs.Call.{CallState, OpensRoot, AreOpened, NotOpened, StopsForRoot, StopsForRepository}
 use Rattle.cny_laws.specs.WholeCall.{CallEnds, HasEffect, Outcome, left_when, left_of, IsOpenedOnly, CallOnRoot}
 use Rattle.cli_call.proofs.CallEnds.{small, next_any, no_root_effect, no_repo_effect, no_unread_effect, outcome_of, dir_missing, run_ends, shown_so, unread_ends}
-use Rattle.cli_call.specs.Command.{disks}
 use Rattle.cny_laws.specs.Shown.{IsShown, KeepsOthers}
 use Rattle.cny_laws.specs.system-core.FixedDirs.{fixed_dirs}
 use Rattle.cli_call.proofs.InputLaws.{some_is}
+use Rattle.cli_call.specs.Runs.{after_opening, at_end}
 use Rattle.cli_call.specs.Line.{Moment, RunsLine}
 use Rattle.cny_laws.specs.Reading.{given, Gives, ReadsGiven}
 use Rattle.cny_laws.specs.system-core.tree-journal.Recovered.{IsKept}
@@ -131,12 +131,6 @@ module _ {T P : Type 0} {root_disk : DiskModel T} {repo_disk : DiskModel P} (roo
   -- ---- both were opened
 
   module _ (root : T) (repo : P) (opened opened' : Opened) (opens : AreOpened root_disk repo_disk before.root root before.repo repo opened) where
-    abbrev from_ : Moment T P
-    from_ = record { at = disks root repo opened; out = before.out }
-
-    abbrev to_ : Moment T P
-    to_ = record { at = disks now.root now.repo opened'; out = now.out }
-
     fixed : fixed_dirs (tree_of s.root) ≡ Ok tt
     fixed = fixed_state root_disk_laws before root_told s recovers root opened.db (opens.opens_root.opened root_told)
 
@@ -144,7 +138,7 @@ module _ {T P : Type 0} {root_disk : DiskModel T} {repo_disk : DiskModel P} (roo
     root_rests = opened_root_rests before.root root opened.db s.root (opens.opens_root.opened root_told) recovers
 
     -- the input wasn't read
-    pub root_unread : (e : Failure) → ReadsGiven m.takes_input before.input now.input (Err e) → Gives m.takes_input input (Err e) → to_ ≡ from_ → CallOnRoot root_disk repo_disk m input s before now (Err e)
+    pub root_unread : (e : Failure) → ReadsGiven m.takes_input before.input now.input (Err e) → Gives m.takes_input input (Err e) → at_end root_disk repo_disk now opened' ≡ after_opening root_disk repo_disk before root repo opened → CallOnRoot root_disk repo_disk m input s before now (Err e)
     root_unread e reads gives same =
         let same_root : now.root ≡ root = ap (λ (x : Moment T P). x.at.root) same in
         record {
@@ -176,7 +170,7 @@ module _ {T P : Type 0} {root_disk : DiskModel T} {repo_disk : DiskModel P} (roo
         }
 
     -- the command was performed
-    pub root_run : (bytes : List ℕ) → ReadsGiven m.takes_input before.input now.input (Ok bytes) → given m.takes_input input ≡ Ok bytes → scope.of_root ≡ true → (end : End) → RunsLine root_disk repo_disk scope m bytes from_ to_ end → CallOnRoot root_disk repo_disk m input s before now end
+    pub root_run : (bytes : List ℕ) → ReadsGiven m.takes_input before.input now.input (Ok bytes) → given m.takes_input input ≡ Ok bytes → scope.of_root ≡ true → (end : End) → RunsLine root_disk repo_disk scope m bytes (after_opening root_disk repo_disk before root repo opened) (at_end root_disk repo_disk now opened') end → CallOnRoot root_disk repo_disk m input s before now end
     root_run bytes reads gives is end runs =
         let f = (runs.alone is).told root_told s root_rests in
         let others : KeepsOthers (Outcome m s input) s (root_disk.reads root) (root_disk.reads now.root) = λ q out left.

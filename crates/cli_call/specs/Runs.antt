@@ -40,13 +40,16 @@ module _ {T P : Type 0} (root_disk : DiskModel T) (repo_disk : DiskModel P) wher
   abbrev pub after_opening : CallState T P → T → P → Opened → Moment T P
   after_opening before root repo opened = record { at = disks root repo opened; out = before.out }
 
+  abbrev pub at_end : CallState T P → Opened → Moment T P
+  at_end now opened' = record { at = disks now.root now.repo opened'; out = now.out }
+
   pub record GoesOn (scope : Scope) (m : Meaning) (before now : CallState T P) (end : End) : Type 0 where
     pub root : T
     pub repo : P
     pub opened : Opened
     pub opened' : Opened
     pub opens : AreOpened root_disk repo_disk before.root root before.repo repo opened
-    pub runs : RunsOpen scope m before.input now.input (after_opening before root repo opened) (record { at = disks now.root now.repo opened'; out = now.out }) end
+    pub runs : RunsOpen scope m before.input now.input (after_opening before root repo opened) (at_end now opened') end
 
   -- (by a command that works on so much)
   abbrev pub RunsCall : Scope → Meaning → CallState T P → CallState T P → End → Type 0
