@@ -10,10 +10,10 @@ use Rattle.cny_laws.specs.State.{Effect}
 abbrev pub IsNoSetStream : List ℕ → Type 0
 IsNoSetStream bytes = (set : ChangeSet) → IsSetStream set bytes → ⊥
 
--- The change set whose stream the bytes are, which is one at most, decides the outcome.
-pub record HasSetOutcome (bytes : List ℕ) (IsOutcome : ChangeSet → Result Effect Refusal → Type 0) (outcome : Result Effect Refusal) : Type 0 where
+-- The change set that an input spells, which is one at most, decides the outcome.
+pub record HasSetOutcome (IsSpelled : ChangeSet → Type 0) (IsOutcome : ChangeSet → Result Effect Refusal → Type 0) (outcome : Result Effect Refusal) : Type 0 where
   pub set : ChangeSet
-  pub spelled : IsSetStream set bytes
+  pub spelled : IsSpelled set
   pub is : IsOutcome set outcome
 
 -- The bytes are no change set's, and refused by their first fault.
@@ -25,4 +25,4 @@ pub record HasSetFault (bytes : List ℕ) (outcome : Result Effect Refusal) : Ty
 
 -- the outcome of a command that takes a change set
 abbrev pub OfChangeSet : List ℕ → (ChangeSet → Result Effect Refusal → Type 0) → Result Effect Refusal → Type 0
-OfChangeSet bytes IsOutcome outcome = HasSetOutcome bytes IsOutcome outcome ⊎ HasSetFault bytes outcome
+OfChangeSet bytes IsOutcome outcome = HasSetOutcome (λ set. IsSetStream set bytes) IsOutcome outcome ⊎ HasSetFault bytes outcome

@@ -26,17 +26,33 @@ use Rattle.repository.specs.Tests.{IsRefused, Passes}
 use Rattle.cny_report.specs.Troves.{committed_text}
 use Rattle.cli_call.specs.cny-laws.declared.failure.Failure.{Failure}
 use Rattle.cli_call.specs.cny-laws.declared.failure.Failure.TheVariants as failure
-use Rattle.cli_call.specs.Alone.{ActsOnRepository}
+use Rattle.cli_call.specs.Alone.{ActsOnRepository, AnswersByContents}
 use Rattle.cli_call.specs.Command.{Disks, AreReady, AnswersAs, Goes, HasFailureCause, end_of}
 use Rattle.cli_call.specs.cny-laws.Report.{ChangesNothing, status_of}
 use Rattle.cli_call.proofs.Again.{IsJoined}
-use Rattle.cli_call.proofs.CommandLaws.{goes_read}
-use Rattle.cli_call.specs.cny-laws.State.{State, IsNext, Takes}
+use Rattle.cli_call.specs.SetInput.{HasSetOutcome}
+use Rattle.cli_call.proofs.CommandLaws.{acts_more, goes_read}
+use Rattle.cli_call.proofs.OpenedEnds.{contents_more}
+use Rattle.cli_call.specs.cny-laws.State.{Effect, Meaning, State, IsNext, Takes}
 use Rattle.cli_call.specs.cny-laws.Stops.{repository_failure, repository_result}
 use Rattle.cli_call.specs.cny-laws.Store.{HasDamagedFile, IsSettled, IsStore, OneOf, Recovers, RestsAt}
 use Rattle.cli_call.specs.cny-laws.Stores.{repository_store}
 use Rattle.cli_call.proofs.StoreLaws.{read_settled}
 use Rattle.repo_commands.specs.Commit.{commit_of, committed, Commits}
+
+-- ---- a change set that an input spells
+
+-- its commit is what the command does that the input is of
+module _ {T P : Type 0} {root_disk : DiskModel T} {repo_disk : DiskModel P} (IsSpelled : ChangeSet → Type 0) (m : Meaning) (input : List ℕ) (of_set : (s : State) (o : Result Effect Refusal) → HasSetOutcome IsSpelled (λ set. Commits set s.repository) o → m.IsOutcome s input o)
+    (old new : Disks T P) (set : ChangeSet) (spelled : IsSpelled set) (result : Result (List ℕ) Failure) where
+  pub set_acts : ActsOnRepository root_disk repo_disk (commit_of set) input old new result → ActsOnRepository root_disk repo_disk m input old new result
+  set_acts = acts_more (commit_of set) m input input old new result (λ told s rests o is. of_set s o (record { set = set; spelled = spelled; is = is }))
+
+  -- the same by the contents that stand whole
+  pub set_whole : AnswersByContents root_disk repo_disk (commit_of set) input old new result → AnswersByContents root_disk repo_disk m input old new result
+  set_whole = contents_more (commit_of set) m input input old new result (λ s has o is. of_set s o (record { set = set; spelled = spelled; is = is }))
+
+-- ---- the commit
 
 -- the laws that are called upon
 pub record CommitLaws : Type 0 where

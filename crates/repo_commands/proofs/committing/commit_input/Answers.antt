@@ -1,42 +1,24 @@
-use Rattle.std.proofs.Common.{false, inl, inr, refl}
+use Rattle.std.proofs.Common.{false, inl, inr}
 use Rattle.std.proofs.lemmas.Bool.{false≢true}
-use Rattle.cli_call.specs.Alone.{ActsOnRepository, AnswersByContents}
-use Rattle.cli_call.proofs.OpenedEnds.{contents_more, files_kept}
+use Rattle.cli_call.proofs.OpenedEnds.{files_kept}
 use Rattle.cli_call.specs.Command.{disks}
-use Rattle.cli_call.proofs.CommandLaws.{acts_more}
-use Rattle.cli_call.specs.cny-laws.Failures.{failure_of_fault}
-use Rattle.repo_commands.specs.Commit.{commit, commit_of}
+use Rattle.repo_commands.specs.Commit.{commit}
 use Rattle.cli_call.proofs.SetFaults.{no_set_acts, no_set_whole}
-use Rattle.cny_version.proofs.cny-base.Passing.{err_is}
+use Rattle.cli_call.specs.change-set.ChangeSet.{IsSetStream}
+use Rattle.repo_commands.proofs.CommitEnds.{set_acts, set_whole}
 use Rattle.repo_commands.proofs.committing.commit_input.Goals as goal
 
 pub returns-in_err-set-clause-performs : goal.returns-in_err-set-clause-performs
-returns-in_err-set-clause-performs g c =
-    let m = disks c.args.root.now c.args.repo.now c.args.opened.now in
-    err_is (ActsOnRepository g.T.TreeDisk.disk g.P.TreeDisk.disk commit c.args.input.now m m) c.from_residual.result (failure_of_fault c.in_err-set.field-0.0) c.from_residual.ensures.1
-    (no_set_acts g.met.T.TreeDisk.laws g.met.P.TreeDisk.laws c.store_laws.ensures commit c.args.input.now m c.requires (λ s refusal none first. inr (record { none = none; fault = refusal; first = first; is = refl }))
-    c.in_err-set.field-0.0 c.in_err-set.ensures.refused c.in_err-set.ensures.only)
+returns-in_err-set-clause-performs g c = no_set_acts g.met.T.TreeDisk.laws g.met.P.TreeDisk.laws c.store_laws.ensures commit c.args.input.now (disks c.args.root.now c.args.repo.now c.args.opened.now) c.requires (λ s outcome fault. inr fault) c.in_err-set.field-0.0 c.in_err-set.ensures.refused c.in_err-set.ensures.only c.from_residual.result c.from_residual.ensures.1
 
 pub returns-clause-performs : goal.returns-clause-performs
-returns-clause-performs g c =
-    let old = disks c.args.root.now c.args.repo.now c.args.opened.now in
-    let new = disks c.args.root.now c.commit_set.new.repo c.commit_set.new.opened in
-    acts_more (commit_of c.in_ok-set.set) commit c.args.input.now c.args.input.now old new c.commit_set.result
-    (λ told s rests outcome is. inl (record { set = c.in_ok-set.set; spelled = c.in_ok-set.ensures.value; is = is })) (c.commit_set.ensures.performs c.args.input.now)
+returns-clause-performs g c = set_acts (λ set. IsSetStream set c.args.input.now) commit c.args.input.now (λ s outcome is. inl is) _ _ c.in_ok-set.set c.in_ok-set.ensures.value c.commit_set.result (c.commit_set.ensures.performs c.args.input.now)
 
 pub returns-in_err-set-clause-whole : goal.returns-in_err-set-clause-whole
-returns-in_err-set-clause-whole g c =
-    let m = disks c.args.root.now c.args.repo.now c.args.opened.now in
-    err_is (AnswersByContents g.T.TreeDisk.disk g.P.TreeDisk.disk commit c.args.input.now m m) c.from_residual.result (failure_of_fault c.in_err-set.field-0.0) c.from_residual.ensures.1
-    (no_set_whole g.met.T.TreeDisk.laws g.met.P.TreeDisk.laws c.store_laws.ensures commit c.args.input.now m c.requires (λ s refusal none first. inr (record { none = none; fault = refusal; first = first; is = refl }))
-    c.in_err-set.field-0.0 c.in_err-set.ensures.refused c.in_err-set.ensures.only)
+returns-in_err-set-clause-whole g c = no_set_whole g.met.T.TreeDisk.laws g.met.P.TreeDisk.laws c.store_laws.ensures commit c.args.input.now (disks c.args.root.now c.args.repo.now c.args.opened.now) c.requires (λ s outcome fault. inr fault) c.in_err-set.field-0.0 c.in_err-set.ensures.refused c.in_err-set.ensures.only c.from_residual.result c.from_residual.ensures.1
 
 pub returns-clause-whole : goal.returns-clause-whole
-returns-clause-whole g c =
-    let old = disks c.args.root.now c.args.repo.now c.args.opened.now in
-    let new = disks c.args.root.now c.commit_set.new.repo c.commit_set.new.opened in
-    contents_more (commit_of c.in_ok-set.set) commit c.args.input.now c.args.input.now old new c.commit_set.result
-    (λ s has outcome is. inl (record { set = c.in_ok-set.set; spelled = c.in_ok-set.ensures.value; is = is })) (c.commit_set.ensures.whole c.args.input.now)
+returns-clause-whole g c = set_whole (λ set. IsSetStream set c.args.input.now) commit c.args.input.now (λ s outcome is. inl is) _ _ c.in_ok-set.set c.in_ok-set.ensures.value c.commit_set.result (c.commit_set.ensures.whole c.args.input.now)
 
 -- ---- what stays
 

@@ -1,12 +1,12 @@
 use Rattle.std.proofs.Common.{false, inl}
 use Rattle.std.proofs.lemmas.Bool.{false≢true}
 use Rattle.cli_call.specs.Alone.{ActsOnRepository, AnswersByContents}
-use Rattle.cli_call.proofs.OpenedEnds.{contents_more, files_kept}
+use Rattle.cli_call.proofs.OpenedEnds.{files_kept}
 use Rattle.cli_call.specs.Command.{disks}
-use Rattle.cli_call.proofs.CommandLaws.{acts_more}
 use Rattle.cli_call.specs.cny-laws.Failures.{failure_of_fault}
-use Rattle.repo_commands.specs.Commit.{commit_of}
+use Rattle.repo_mirror.specs.Replies.{IsSetReply}
 use Rattle.repo_commands.specs.TakeMirror.{take_mirror}
+use Rattle.repo_commands.proofs.CommitEnds.{set_acts, set_whole}
 use Rattle.repo_commands.proofs.MirrorEnds.{no_reply, no_reply_whole}
 use Rattle.cny_version.proofs.cny-base.Passing.{err_is}
 use Rattle.repo_commands.proofs.mirroring.take_mirror.Goals as goal
@@ -21,11 +21,7 @@ pub commit_set-requires-clause-contents : goal.commit_set-requires-clause-conten
 commit_set-requires-clause-contents g c = c.in_ok-set.ensures.value.stream.stream.set_is.has_contents
 
 pub returns-clause-performs : goal.returns-clause-performs
-returns-clause-performs g c =
-    let old = disks c.args.root.now c.args.repo.now c.args.opened.now in
-    let new = disks c.args.root.now c.commit_set.new.repo c.commit_set.new.opened in
-    acts_more (commit_of c.in_ok-set.set) take_mirror c.args.input.now c.args.input.now old new c.commit_set.result
-    (λ told s rests outcome is. inl (record { set = c.in_ok-set.set; spelled = c.in_ok-set.ensures.value; is = is })) (c.commit_set.ensures.performs c.args.input.now)
+returns-clause-performs g c = set_acts (λ set. IsSetReply set c.args.input.now) take_mirror c.args.input.now (λ s outcome is. inl is) _ _ c.in_ok-set.set c.in_ok-set.ensures.value c.commit_set.result (c.commit_set.ensures.performs c.args.input.now)
 
 pub returns-in_err-set-clause-whole : goal.returns-in_err-set-clause-whole
 returns-in_err-set-clause-whole g c =
@@ -34,11 +30,7 @@ returns-in_err-set-clause-whole g c =
     (no_reply_whole c.args.input.now m g.met.T.TreeDisk.laws c.requires c.in_err-set.field-0.0 c.in_err-set.ensures.refused)
 
 pub returns-clause-whole : goal.returns-clause-whole
-returns-clause-whole g c =
-    let old = disks c.args.root.now c.args.repo.now c.args.opened.now in
-    let new = disks c.args.root.now c.commit_set.new.repo c.commit_set.new.opened in
-    contents_more (commit_of c.in_ok-set.set) take_mirror c.args.input.now c.args.input.now old new c.commit_set.result
-    (λ s has outcome is. inl (record { set = c.in_ok-set.set; spelled = c.in_ok-set.ensures.value; is = is })) (c.commit_set.ensures.whole c.args.input.now)
+returns-clause-whole g c = set_whole (λ set. IsSetReply set c.args.input.now) take_mirror c.args.input.now (λ s outcome is. inl is) _ _ c.in_ok-set.set c.in_ok-set.ensures.value c.commit_set.result (c.commit_set.ensures.whole c.args.input.now)
 
 -- ---- what stays
 

@@ -1,21 +1,14 @@
-use Rattle.std.proofs.Common.{inl, inr, refl}
-use Rattle.cli_call.specs.Alone.{AnswersByContents}
-use Rattle.cli_call.specs.Command.{disks, Performs}
+use Rattle.std.proofs.Common.{inl, inr}
+use Rattle.cli_call.specs.Command.{disks}
 use Rattle.cli_call.proofs.OpenedEnds.{contents_more}
 use Rattle.cli_call.proofs.CommandLaws.{performs_more}
-use Rattle.cli_call.specs.cny-laws.Failures.{failure_of_fault}
 use Rattle.cli_call.proofs.SetFaults.{no_set, no_set_whole}
 use Rattle.root_commands.specs.Update as spec
-use Rattle.local_db.proofs.cny-base.Passing.{err_is}
 use Rattle.cli_call.proofs.StoreLaws.{nothing_done}
 use Rattle.root_commands.proofs.updating.update_input.Goals as goal
 
 pub returns-in_err-set-clause-performs : goal.returns-in_err-set-clause-performs
-returns-in_err-set-clause-performs g c =
-    let m = disks c.args.root.now c.args.repo.now c.args.opened.now in
-    err_is (Performs g.T.TreeDisk.disk g.P.TreeDisk.disk (spec.update_input c.args.options.now) c.args.input.now m m) c.from_residual.result (failure_of_fault c.in_err-set.field-0.0) c.from_residual.ensures.1
-    (no_set g.met.T.TreeDisk.laws g.met.P.TreeDisk.laws c.store_laws.ensures (spec.update_input c.args.options.now) c.args.input.now m c.requires (λ s refusal none first. inr (record { none = none; fault = refusal; first = first; is = refl }))
-    c.in_err-set.field-0.0 c.in_err-set.ensures.refused c.in_err-set.ensures.only)
+returns-in_err-set-clause-performs g c = no_set g.met.T.TreeDisk.laws g.met.P.TreeDisk.laws c.store_laws.ensures (spec.update_input c.args.options.now) c.args.input.now (disks c.args.root.now c.args.repo.now c.args.opened.now) c.requires (λ s outcome fault. inr fault) c.in_err-set.field-0.0 c.in_err-set.ensures.refused c.in_err-set.ensures.only c.from_residual.result c.from_residual.ensures.1
 
 pub returns-clause-performs : goal.returns-clause-performs
 returns-clause-performs g c =
@@ -33,11 +26,7 @@ returns-clause-repo_read g c = c.update_by.ensures.repo_read
 -- ---- by what was read when the disks were opened, and the contents that stand whole
 
 pub returns-in_err-set-clause-whole : goal.returns-in_err-set-clause-whole
-returns-in_err-set-clause-whole g c =
-    let m = disks c.args.root.now c.args.repo.now c.args.opened.now in
-    err_is (AnswersByContents g.T.TreeDisk.disk g.P.TreeDisk.disk (spec.update_input c.args.options.now) c.args.input.now m m) c.from_residual.result (failure_of_fault c.in_err-set.field-0.0) c.from_residual.ensures.1
-    (no_set_whole g.met.T.TreeDisk.laws g.met.P.TreeDisk.laws c.store_laws.ensures (spec.update_input c.args.options.now) c.args.input.now m c.requires (λ s refusal none first. inr (record { none = none; fault = refusal; first = first; is = refl }))
-    c.in_err-set.field-0.0 c.in_err-set.ensures.refused c.in_err-set.ensures.only)
+returns-in_err-set-clause-whole g c = no_set_whole g.met.T.TreeDisk.laws g.met.P.TreeDisk.laws c.store_laws.ensures (spec.update_input c.args.options.now) c.args.input.now (disks c.args.root.now c.args.repo.now c.args.opened.now) c.requires (λ s outcome fault. inr fault) c.in_err-set.field-0.0 c.in_err-set.ensures.refused c.in_err-set.ensures.only c.from_residual.result c.from_residual.ensures.1
 
 pub returns-clause-whole : goal.returns-clause-whole
 returns-clause-whole g c =
