@@ -1,5 +1,5 @@
 -- Whether the writes of a log can be put into a tree is decided.
-use Rattle.std.proofs.Common.{◌≡◌, ◌⊎◌, inl, inr, ⊎_elim, ℕ, Bool, true, false, ◌==◌, ◌&&◌, ◌||◌, List, [], ◌∷◌, ◌++◌, Option, Some, None, refl, sym, ap, ◌∙◌, subst, append_assoc, append-nil, eqb-true, eq-eqb}
+use Rattle.std.proofs.Common.{◌≡◌, ◌⊎◌, inl, inr, ⊎_elim, ℕ, Bool, true, false, ◌==◌, ◌&&◌, ◌||◌, List, [], ◌∷◌, ◌++◌, refl, sym, ap, ◌∙◌, subst, append_assoc, append-nil, eqb-true, eq-eqb}
 use Rattle.std.specs.Prelude.{is_some, IsTrue}
 use Rattle.std.specs.List.{list_any, All}
 use Rattle.std.proofs.lemmas.List.Elements.{All-nil, All-cons, All-head, All-tail}
@@ -7,11 +7,12 @@ use Rattle.std.proofs.lemmas.Bool.{cases_Bool}
 use Rattle.std.specs.FinMap.{get, keys, contains_key-keys}
 use Rattle.conary_cli.specs.cli-call.cny-base.Below.{begins_with, is_below}
 use Rattle.conary_cli.specs.cli-call.cny-base.Path.{is_path}
-use Rattle.conary_cli.specs.cli-call.cny-base.declared.node.Node.{Node}
 use Rattle.conary_cli.specs.cli-call.tree-disk.Laws.{same_means}
 use Rattle.conary_cli.specs.cli-call.tree-disk.Rows.{is_dir_at}
 use Rattle.conary_cli.specs.cli-call.tree-disk.Tree.{Name, Tree, same_name}
 use Rattle.conary_cli.proofs.cli-call.tree-disk.Laws.{same_itself}
+use Rattle.change_rel.proofs.cny-base.Lists.{not_some}
+use Rattle.tree_nodes.proofs.cny-base.Bools.{or_left, or_right}
 use Rattle.conary_cli.specs.cli-call.journal-log.declared.put.Put.{Put}
 use Rattle.conary_cli.specs.cli-call.journal-log.Targets.{is_dir_want, is_target}
 use Rattle.conary_cli.specs.cli-call.tree-journal.CanBePut.{AllCanBePut, CanBePut, HasWay, IsClearBelow}
@@ -134,32 +135,20 @@ module _ (puts : List Put) (tree : Tree) where
     first_free n names q free rest true same h = subst IsFree (sym (same_means q n same)) free
     first_free n names q free rest false same h = rest q h
 
-    first_listed : (n : Name) (names : List Name) (a : Bool) → same_name n n ≡ a → (a || list_any (same_name n) names) ≡ true
-    first_listed n names true same = refl
-    first_listed n names false same = absurd (cc (sym (same_itself n) ∙ same))
-
-    later_listed : (a b : Bool) → b ≡ true → (a || b) ≡ true
-    later_listed true b h = refl
-    later_listed false b h = h
-
     decide_names : (names : List Name) → AllFree names ⊎ OneNot names
     decide_names [] = inl (λ q h. absurd (cc h))
     decide_names (n ∷ names) = by (decide_free n) (decide_names names)
       where
         by : Decides (IsFree n) → AllFree names ⊎ OneNot names → AllFree (n ∷ names) ⊎ OneNot (n ∷ names)
-        by (inr never) d = inr (n, first_listed n names (same_name n n) refl, never)
+        by (inr never) d = inr (n, or_left (same_name n n) (list_any (same_name n) names) (same_itself n), never)
         by (inl free) (inl rest) = inl (λ q h. first_free n names q free rest (same_name q n) refl h)
-        by (inl free) (inr one) = inr (one.0, later_listed (same_name one.0 n) (list_any (same_name one.0) names) one.1, one.2)
-
-    none_stands : (o : Option Node) → is_some o ≡ false → o ≡ None
-    none_stands None h = refl
-    none_stands (Some node) h = absurd (cc h)
+        by (inl free) (inr one) = inr (one.0, or_right (same_name one.0 n) (list_any (same_name one.0) names) one.1, one.2)
 
     decide_clear : Decides (IsClearBelow puts tree path)
     decide_clear = ⊎_elim
         (λ all. inl (λ q below free. ⊎_elim
         (λ stands. absurd (all q (sym (contains_key-keys tree q) ∙ stands) below free))
-        (λ none. none_stands (get tree q) none)
+        (λ none. not_some (get tree q) none)
         (cases_Bool (is_some (get tree q)))))
         (λ one. inr (λ clear. one.2 (λ below free. absurd (cc (sym (contains_key-keys tree one.0 ∙ one.1) ∙ ap is_some (clear one.0 below free))))))
         (decide_names (keys tree))
