@@ -1,5 +1,5 @@
 -- A call of a command, from its steps.
-use Rattle.std.proofs.Common.{◌≡◌, ℕ, ◌≤◌, Bool, List, Result, Ok, Err, refl, sym, subst, inl, inr, ⊎_elim, arith}
+use Rattle.std.proofs.Common.{◌≡◌, ◌⊎◌, ℕ, ◌≤◌, Bool, List, Result, Ok, Err, refl, sym, ap, subst, inl, inr, ⊎_elim, arith}
 use Rattle.cny_version.specs.cny-base.Flow.{SourceState, SinkState}
 use Rattle.root_commands.specs.cli-call.tree-disk.Disk.{DiskModel, IsDisk}
 use Rattle.root_commands.specs.cli-call.cny-laws.declared.failure.Failure.{Failure}
@@ -13,6 +13,7 @@ use Rattle.root_commands.specs.cli-call.cny-laws.Report.{End, Reports, status_of
 use Rattle.root_commands.specs.cli-call.cny-laws.State.{Meaning, Scope}
 use Rattle.root_commands.specs.cli-call.cny-laws.Store.{IsStore}
 use Rattle.root_commands.specs.cli-call.cny-laws.Stores.{repository_store}
+use Rattle.root_commands.specs.cli-call.cny-laws.WholeCall.{IsNoCall}
 use Rattle.cli_words.specs.declared.words.Command.{Command}
 use Rattle.conary_cli.specs.Commands.{meaning, scope_of, RunsWords, RunsSome, IsWholeCall, IsSomeCall}
 use Rattle.conary_cli.specs.Records.{EndsOpened}
@@ -52,24 +53,20 @@ whole_words root_laws repo_laws store_laws before now err err' status end (Err e
 
 -- ---- whatever the words are
 
+-- what isn't for want of memory is so
+pub or_memory : {A : Type 0} (IsSo : Result A Failure → Type 0) (e : Failure) → OrMemory IsSo (Err e) → IsSo (Err e) ⊎ (e ≡ failure.Memory)
+or_memory IsSo failure.Memory are = inr refl
+or_memory IsSo _ are = inl are
+
 -- words that weren't read as a command are none, or memory ran out
 pub some_unread : {T P : Type 0} (root_disk : DiskModel T) (repo_disk : DiskModel P) (words : List (List ℕ)) (before : CallState T P) (e : Failure) → OrMemory (AreWords words) (Err e) → RunsSome root_disk repo_disk words before before (Err e)
-some_unread root_disk repo_disk words before failure.Memory are = inr (refl, refl)
-some_unread root_disk repo_disk words before failure.Usage are = inl (Err failure.Usage, are, (refl, inl refl))
-some_unread root_disk repo_disk words before (failure.Refused r) are = inl (Err (failure.Refused r), are, (refl, inl refl))
-some_unread root_disk repo_disk words before failure.InputFault are = inl (Err failure.InputFault, are, (refl, inl refl))
-some_unread root_disk repo_disk words before failure.OutputFault are = inl (Err failure.OutputFault, are, (refl, inl refl))
-some_unread root_disk repo_disk words before failure.RootFault are = inl (Err failure.RootFault, are, (refl, inl refl))
-some_unread root_disk repo_disk words before failure.RepositoryFault are = inl (Err failure.RepositoryFault, are, (refl, inl refl))
-some_unread root_disk repo_disk words before (failure.Damaged path) are = inl (Err (failure.Damaged path), are, (refl, inl refl))
+some_unread root_disk repo_disk words before e are = ⊎_elim (λ is. inl (Err e, is, (refl, inl refl))) (λ memory. inr (refl, ap Err memory)) (or_memory (AreWords words) e are)
 
-pub some_words : {T P : Type 0} {root_disk : DiskModel T} {repo_disk : DiskModel P} → IsDisk root_disk → IsDisk repo_disk → IsStore repository_store → (words : List (List ℕ)) (before now : CallState T P) (err err' : SinkState) (status : ℕ) (end : End)
-    → RunsSome root_disk repo_disk words before now end → Reports end err err' status → IsSomeCall root_disk repo_disk words before now err err' status
-some_words root_laws repo_laws store_laws words before now err err' status end (inl some) reports = inl (some.0, some.1, whole_words root_laws repo_laws store_laws before now err err' status end some.0 some.2 reports)
-some_words root_laws repo_laws store_laws words before now err err' status end (inr none) reports = inr (record {
-  same = none.0;
-  reports = inr (subst (λ (x : End). Reports x err err' status) none.1 reports);
-})
+-- the words are one of some, or memory ran out before they were read
+pub some_called : {T P A : Type 0} (Are Runs Is : A → Type 0) (before now : CallState T P) (err err' : SinkState) (status : ℕ) (end : End) → ((expected : A) → Runs expected → Is expected)
+    → ((expected : A) × Are expected × Runs expected) ⊎ ((now ≡ before) × (end ≡ Err failure.Memory)) → Reports end err err' status → ((expected : A) × Are expected × Is expected) ⊎ IsNoCall failure.Memory before now err err' status
+some_called Are Runs Is before now err err' status end each (inl some) reports = inl (some.0, some.1, each some.0 some.2)
+some_called Are Runs Is before now err err' status end each (inr none) reports = inr (record { same = none.0; reports = inr (subst (λ (x : End). Reports x err err' status) none.1 reports) })
 
 -- ---- statuses
 

@@ -28,7 +28,7 @@ use Rattle.conary_cli.specs.Commands.{meaning}
 use Rattle.conary_cli.specs.Lines.{CallLine, EndsOne, LineOutcome, LinesEnd, RunsLines, RunsOf, RunsOne, shown_as}
 use Rattle.conary_cli.specs.Lives.{LiveBoth, LiveStep, before_last, last_state}
 use Rattle.cli_words.specs.Words.{AreWords, IsOnly}
-use Rattle.conary_cli.proofs.Living.{live_first, repo_reads_on, root_reads_on}
+use Rattle.conary_cli.proofs.Living.{live_first, reads_on}
 
 -- ---- outcomes
 
@@ -145,8 +145,8 @@ module _ {T P : Type 0} {root_disk : DiskModel T} {repo_disk : DiskModel P} (roo
         lives = live_first root_disk repo_disk s f.next t.states old.at.root mid.at.root new.at.root old.at.repo mid.at.repo new.at.repo (record { on_root = f.root.images; on_repo = f.repo.images; apart = f.apart }) t.lives;
         root_rests = t.root_rests;
         repo_rests = t.repo_rests;
-        root_reads = root_reads_on s f.next t.states (root_disk.reads new.at.root) t.root_reads;
-        repo_reads = repo_reads_on s f.next t.states (repo_disk.reads new.at.repo) t.repo_reads;
+        root_reads = reads_on root_store (λ (x : State). x.root) s f.next t.states (root_disk.reads new.at.root) t.root_reads;
+        repo_reads = reads_on repository_store (λ (x : State). x.repository) s f.next t.states (repo_disk.reads new.at.repo) t.repo_reads;
       }
 
 -- ---- whatever the disks store

@@ -4,8 +4,7 @@ use Rattle.root_commands.specs.cli-call.tree-disk.Tree.{Tree}
 use Rattle.root_commands.specs.cli-call.tree-disk.Disk.{DiskModel}
 use Rattle.root_commands.proofs.cli-call.tree-disk.ConfinedLaws.{leaves_then, leaves_weaker}
 use Rattle.root_commands.specs.cli-call.cny-laws.State.{State}
-use Rattle.root_commands.specs.cli-call.cny-laws.Store.{OneOf}
-use Rattle.root_commands.specs.cli-call.cny-laws.Stores.{root_store, repository_store}
+use Rattle.root_commands.specs.cli-call.cny-laws.Store.{OneOf, Store}
 use Rattle.conary_cli.specs.Lives.{LiveBoth, LiveStep, before_last, last_state}
 
 -- a step from a state to the next, and a list that begins with that
@@ -19,11 +18,6 @@ live_first root_disk repo_disk s t [] root mid root' repo far repo' first then =
 live_first root_disk repo_disk s t (u ∷ more) root mid root' repo far repo' first then = (mid, far, first, then)
 
 -- one of the last two states, where the second is the first of those behind it
-pub root_reads_on : (s next : State) (states : List State) (tree : Tree) → OneOf root_store (before_last next states).root (last_state next states).root tree → OneOf root_store (before_last s (next ∷ states)).root (last_state next states).root tree
-root_reads_on s next [] tree h = inr (⊎_elim (λ a. a) (λ b. b) h)
-root_reads_on s next (t ∷ states) tree h = h
-
-pub repo_reads_on : (s next : State) (states : List State) (tree : Tree) → OneOf repository_store (before_last next states).repository (last_state next states).repository tree
-    → OneOf repository_store (before_last s (next ∷ states)).repository (last_state next states).repository tree
-repo_reads_on s next [] tree h = inr (⊎_elim (λ a. a) (λ b. b) h)
-repo_reads_on s next (t ∷ states) tree h = h
+pub reads_on : {X : Type 0} (store : Store X) (part : State → X) (s next : State) (states : List State) (tree : Tree) → OneOf store (part (before_last next states)) (part (last_state next states)) tree → OneOf store (part (before_last s (next ∷ states))) (part (last_state next states)) tree
+reads_on store part s next [] tree h = inr (⊎_elim (λ a. a) (λ b. b) h)
+reads_on store part s next (t ∷ states) tree h = h

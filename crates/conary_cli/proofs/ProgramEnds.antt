@@ -1,5 +1,5 @@
 -- A call of the program, from its steps.
-use Rattle.std.proofs.Common.{◌≤◌, ℕ, true, false, List, Result, Ok, Err, subst, inl, inr, ⊎_elim}
+use Rattle.std.proofs.Common.{◌≤◌, ℕ, true, false, List, Result, Ok, Err, inl, inr, ⊎_elim}
 use Rattle.cny_version.specs.cny-base.Flow.{SinkState}
 use Rattle.root_commands.specs.cli-call.tree-disk.Disk.{DiskModel, IsDisk}
 use Rattle.root_commands.specs.cli-call.cny-laws.declared.failure.Failure.{Failure}
@@ -10,7 +10,7 @@ use Rattle.root_commands.specs.cli-call.cny-laws.Store.{IsStore}
 use Rattle.root_commands.specs.cli-call.cny-laws.Stores.{repository_store}
 use Rattle.cli_words.specs.declared.call_words.Call.{Call}
 use Rattle.cli_words.specs.declared.call_words.Call.TheVariants as call
-use Rattle.conary_cli.specs.Program.{IsProgramCall, IsSomething, RunsProgram, RunsSomething}
+use Rattle.conary_cli.specs.Program.{IsProgramCall, IsSomething, RunsProgram}
 use Rattle.conary_cli.specs.Several.{AreBatchLines, AreDemoLines}
 use Rattle.conary_cli.proofs.Calls.{known_status, whole_status, whole_words}
 use Rattle.conary_cli.proofs.SeveralEnds.{whole_lines}
@@ -21,14 +21,6 @@ whole_program root_laws repo_laws store_laws before now err err' status end (Ok 
 whole_program root_laws repo_laws store_laws before now err err' status end (Ok call.Batch) runs reports = whole_lines root_laws repo_laws store_laws true AreBatchLines before now end err err' status runs reports
 whole_program root_laws repo_laws store_laws before now err err' status end (Ok (call.Demo packages)) runs reports = whole_lines root_laws repo_laws store_laws false (AreDemoLines packages) before now end err err' status runs reports
 whole_program root_laws repo_laws store_laws before now err err' status end (Err e) runs reports = whole_words root_laws repo_laws store_laws before now err err' status end (Err e) runs reports
-
-pub some_program : {T P : Type 0} {root_disk : DiskModel T} {repo_disk : DiskModel P} → IsDisk root_disk → IsDisk repo_disk → IsStore repository_store → (words : List (List ℕ)) (before now : CallState T P) (err err' : SinkState) (status : ℕ) (end : End)
-    → RunsSomething root_disk repo_disk words before now end → Reports end err err' status → IsSomething root_disk repo_disk words before now err err' status
-some_program root_laws repo_laws store_laws words before now err err' status end (inl some) reports = inl (some.0, some.1, whole_program root_laws repo_laws store_laws before now err err' status end some.0 some.2 reports)
-some_program root_laws repo_laws store_laws words before now err err' status end (inr none) reports = inr (record {
-  same = none.0;
-  reports = inr (subst (λ (x : End). Reports x err err' status) none.1 reports);
-})
 
 -- ---- statuses
 

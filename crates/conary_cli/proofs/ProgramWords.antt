@@ -1,5 +1,5 @@
 -- Words that weren't read as a call.
-use Rattle.std.proofs.Common.{◌≡◌, ℕ, List, Result, Ok, Err, refl, sym, ap, inl, inr, true, false}
+use Rattle.std.proofs.Common.{◌≡◌, ℕ, List, Result, Ok, Err, refl, sym, ap, inl, inr, ⊎_elim, true, false}
 use Rattle.root_commands.specs.cli-call.tree-disk.Disk.{DiskModel, IsDisk}
 use Rattle.root_commands.specs.cli-call.cny-laws.declared.failure.Failure.{Failure}
 use Rattle.root_commands.specs.cli-call.cny-laws.declared.failure.Failure.TheVariants as failure
@@ -12,6 +12,7 @@ use Rattle.cli_words.specs.Calls.{AreCall, IsCallOrMemory, ReadsCall}
 use Rattle.conary_cli.specs.Commands.{meaning, scope_of}
 use Rattle.conary_cli.specs.Program.{RunsProgram, RunsSomething}
 use Rattle.conary_cli.specs.Several.{AreBatchLines, AreDemoLines, before_lines, of_input}
+use Rattle.conary_cli.proofs.Calls.{or_memory}
 use Rattle.conary_cli.proofs.RecordEnds.{memory_whole}
 
 same_end : (f e : Failure) → ◌≡◌ {A = Result Call Failure} (Err f) (Err e) → ◌≡◌ {A = End} (Err e) (Err f)
@@ -29,11 +30,4 @@ no_call repo_disk root_laws before (Err f) (failure.Refused r) reads = (refl, in
 no_call repo_disk root_laws before expected _ reads = absurd reads
 
 pub some_unread : {T P : Type 0} (root_disk : DiskModel T) (repo_disk : DiskModel P) (words : List (List ℕ)) (before : CallState T P) (e : Failure) → IsCallOrMemory (AreCall words) (Err e) → RunsSomething root_disk repo_disk words before before (Err e)
-some_unread root_disk repo_disk words before failure.Memory are = inr (refl, refl)
-some_unread root_disk repo_disk words before failure.Usage are = inl (Err failure.Usage, are, (refl, inl refl))
-some_unread root_disk repo_disk words before (failure.Refused r) are = inl (Err (failure.Refused r), are, (refl, inl refl))
-some_unread root_disk repo_disk words before failure.InputFault are = inl (Err failure.InputFault, are, (refl, inl refl))
-some_unread root_disk repo_disk words before failure.OutputFault are = inl (Err failure.OutputFault, are, (refl, inl refl))
-some_unread root_disk repo_disk words before failure.RootFault are = inl (Err failure.RootFault, are, (refl, inl refl))
-some_unread root_disk repo_disk words before failure.RepositoryFault are = inl (Err failure.RepositoryFault, are, (refl, inl refl))
-some_unread root_disk repo_disk words before (failure.Damaged path) are = inl (Err (failure.Damaged path), are, (refl, inl refl))
+some_unread root_disk repo_disk words before e are = ⊎_elim (λ is. inl (Err e, is, (refl, inl refl))) (λ memory. inr (refl, ap Err memory)) (or_memory (AreCall words) e are)
