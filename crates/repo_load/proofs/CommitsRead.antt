@@ -1,5 +1,6 @@
 -- Commits read one after another.
 use Rattle.std.proofs.Common.{◌≡◌, ◌≢◌, inr, ℕ, ◌+◌, ◌≤◌, ◌<◌, Bool, IsTrue, List, [], ◌∷◌, ◌++◌, length, map, All, Option, Some, None, refl, sym, ◌∙◌, ap, subst, arith, length-append}
+use Rattle.std.proofs.lemmas.List.{map-append}
 use Rattle.std.specs.FinMap.{get}
 use Rattle.repo_index.specs.cny-base.declared.limits.TheConstants.{COMMITS_LIMIT}
 use Rattle.repo_index.specs.cny-base.declared.node.Node.{Node}
@@ -7,16 +8,17 @@ use Rattle.repo_index.specs.trove-stream.declared.parts.TroveParts.{TroveParts}
 use Rattle.journal_log.specs.tree-disk.Tree.{Name, Tree}
 use Rattle.content_store.specs.Store.{file_bytes}
 use Rattle.repo_index.specs.Catalogue.{CatalogueParts, no_commits}
-use Rattle.repo_load.specs.State.{Commit, troves_of, catalogue_of, AreFollowing, HasRefs, IsCommit}
+use Rattle.repo_load.specs.State.{Commit, troves_of, AreFollowing, HasRefs, IsCommit}
 use Rattle.repo_load.specs.Files.{commit_file, HoldsCommit, HoldsFirst}
 use Rattle.repo_load.proofs.Following.{troves_push, following_push}
 use Rattle.repo_load.proofs.Holding.{first_push}
 use Rattle.repo_load.specs.Damage.{IsBadCommit, IsDamagedCommit}
-use Rattle.repo_load.specs.Loading.{AreRead, IsFirstUnresolved, LacksCommit}
+use Rattle.repo_load.specs.Loading.{kept, kept_catalogue, AreRead, IsFirstUnresolved, LacksCommit}
+use Rattle.repo_load.proofs.Kept.{back, may_follow, same_ids, HaveSameIds}
 use Rattle.repo_load.proofs.Resolved.{size_of}
 
-pub none_read : (told : Bool) (tree : Tree) (catalogue : CatalogueParts) (counts : List ℕ) → catalogue ≡ no_commits → counts ≡ [] → AreRead told tree catalogue counts
-none_read told tree catalogue counts none no_counts = record {
+pub none_read : (whole told : Bool) (tree : Tree) (catalogue : CatalogueParts) (counts : List ℕ) → catalogue ≡ no_commits → counts ≡ [] → AreRead whole told tree catalogue counts
+none_read whole told tree catalogue counts none no_counts = record {
   commits = [];
   first = λ tells. tt;
   few = omega arith;
@@ -25,12 +27,16 @@ none_read told tree catalogue counts none no_counts = record {
   counts_are = no_counts;
 }
 
-module _ (told : Bool) (tree : Tree) (catalogue : CatalogueParts) (counts : List ℕ) (read : AreRead told tree catalogue counts) where
+module _ (whole told : Bool) (tree : Tree) (catalogue : CatalogueParts) (counts : List ℕ) (read : AreRead whole told tree catalogue counts) where
   pub number_is : catalogue.commits ≡ length read.commits
   number_is = ap (λ (c : CatalogueParts). c.commits) read.is
 
-  pub troves_are : catalogue.troves ≡ troves_of read.commits
+  pub troves_are : catalogue.troves ≡ map (kept whole) (troves_of read.commits)
   troves_are = ap (λ (c : CatalogueParts). c.troves) read.is
+
+  -- they have the ids of what is kept of them
+  have_same_ids : HaveSameIds catalogue.troves (troves_of read.commits)
+  have_same_ids = subst (λ (l : List TroveParts). HaveSameIds l (troves_of read.commits)) (sym troves_are) (same_ids whole (troves_of read.commits))
 
   pub few_read : catalogue.commits ≤ COMMITS_LIMIT
   few_read = subst (λ (n : ℕ). n ≤ COMMITS_LIMIT) (sym number_is) read.few
@@ -41,13 +47,13 @@ module _ (told : Bool) (tree : Tree) (catalogue : CatalogueParts) (counts : List
   -- a further commit
   pub one_read : (troves : Commit) (number : ℕ) (new : CatalogueParts) (new_counts : List ℕ) → number ≡ catalogue.commits + 1 → catalogue.commits < COMMITS_LIMIT
       → (IsTrue told → HoldsCommit tree number troves) → IsCommit catalogue.troves troves
-      → new ≡ record { commits = catalogue.commits + 1; troves = catalogue.troves ++ troves } → new_counts ≡ counts ++ length troves ∷ []
-      → AreRead told tree new new_counts
+      → new ≡ record { commits = catalogue.commits + 1; troves = catalogue.troves ++ map (kept whole) troves } → new_counts ≡ counts ++ length troves ∷ []
+      → AreRead whole told tree new new_counts
   one_read troves number new new_counts number_same few held commit new_is counts_is = record {
     commits = read.commits ++ troves ∷ [];
     first = λ tells. first_push tree read.commits troves (read.first tells) (subst (λ (n : ℕ). HoldsCommit tree n troves) (next_number number number_same) (held tells));
     few = let long : length (read.commits ++ troves ∷ []) ≡ length read.commits + length (troves ∷ []) = length-append read.commits (troves ∷ []) in omega (arith, long, few, number_is);
-    following = following_push [] read.commits troves read.following (subst (λ (l : List TroveParts). IsCommit l troves) troves_are commit);
+    following = following_push [] read.commits troves read.following (may_follow catalogue.troves (troves_of read.commits) troves have_same_ids commit);
     is = new_is ∙ both;
     counts_are = counts_is ∙ ap (λ (l : List ℕ). l ++ length troves ∷ []) read.counts_are ∙ sym (sizes read.commits);
   }
@@ -59,10 +65,12 @@ module _ (told : Bool) (tree : Tree) (catalogue : CatalogueParts) (counts : List
       number_both : catalogue.commits + 1 ≡ length (read.commits ++ troves ∷ [])
       number_both = ap (λ (n : ℕ). n + 1) number_is ∙ sym (length-append read.commits (troves ∷ []))
 
-      troves_both : catalogue.troves ++ troves ≡ troves_of (read.commits ++ troves ∷ [])
-      troves_both = ap (λ (l : List TroveParts). l ++ troves) troves_are ∙ sym (troves_push read.commits troves)
+      troves_both : catalogue.troves ++ map (kept whole) troves ≡ map (kept whole) (troves_of (read.commits ++ troves ∷ []))
+      troves_both = ap (λ (l : List TroveParts). l ++ map (kept whole) troves) troves_are ∙ sym (map-append (kept whole) (troves_of read.commits) troves)
+          ∙ ap (map (kept whole)) (sym (troves_push read.commits troves))
 
-      both : (let c : CatalogueParts = record { commits = catalogue.commits + 1; troves = catalogue.troves ++ troves } in c) ≡ catalogue_of (read.commits ++ troves ∷ [])
+      both : (let c : CatalogueParts = record { commits = catalogue.commits + 1; troves = catalogue.troves ++ map (kept whole) troves } in c)
+          ≡ kept_catalogue whole (read.commits ++ troves ∷ [])
       both = λ i. record { commits = number_both i; troves = troves_both i }
 
   -- what stands at the next number is no commit that follows
@@ -77,7 +85,7 @@ module _ (told : Bool) (tree : Tree) (catalogue : CatalogueParts) (counts : List
     stands = stands;
     none = λ troves few held commit. none troves (omega (arith, few, number_is))
         (subst (λ (n : ℕ). HoldsCommit tree n troves) (sym (next_number number number_same)) held)
-        (subst (λ (l : List TroveParts). IsCommit l troves) (sym troves_are) commit);
+        (may_follow (troves_of read.commits) catalogue.troves troves (back catalogue.troves (troves_of read.commits) have_same_ids) commit);
   }
 
   -- the same of a file that holds no commit at all

@@ -6,6 +6,7 @@ pub mod Committing
 pub mod HeldCatalogues
 pub mod CountedNames
 mod Written
+pub mod Kept
 pub mod Joined
 pub mod Resolved
 pub mod CommitsRead

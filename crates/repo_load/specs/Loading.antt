@@ -1,11 +1,12 @@
 -- What is read of a repository's commits.
-use Rattle.std.specs.Prelude.{◌≡◌, ◌≢◌, ℕ, ◌+◌, ◌≤◌, Bool, true, false, IsTrue, List, [], ◌∷◌, ◌++◌, length, map, All, Option, Some, None}
+use Rattle.std.specs.Prelude.{◌≡◌, ◌≢◌, ℕ, ◌+◌, ◌≤◌, Bool, true, false, if◌then◌else◌, IsTrue, List, [], ◌∷◌, ◌++◌, length, map, All, Option, Some, None}
 use Rattle.std.specs.FinMap.{get}
 use Rattle.repo_index.specs.cny-base.declared.limits.TheConstants.{COMMITS_LIMIT}
 use Rattle.journal_log.specs.tree-disk.Tree.{Name, Tree}
+use Rattle.repo_index.specs.trove-stream.declared.parts.TroveParts.{TroveParts}
 use Rattle.repo_index.specs.Catalogue.{CatalogueParts}
 use Rattle.repo_load.specs.State.{Commit, troves_of, catalogue_of, AreCommits, AreFollowing, HasRefs}
-use Rattle.repo_load.specs.Files.{commit_file, HoldsCommit, HoldsCommits, HoldsFirst, IsCommitStream}
+use Rattle.repo_load.specs.Files.{commit_file, HoldsCatalogue, HoldsCommit, HoldsCommits, HoldsFirst, IsCommitStream}
 
 -- ---- what callers know
 
@@ -14,6 +15,10 @@ pub record IsCatalogue (catalogue : CatalogueParts) : Type 0 where
   pub commits : List Commit
   pub rules : AreCommits commits
   pub is : catalogue ≡ catalogue_of commits
+
+-- there is a catalogue that the tree's files hold
+abbrev pub HoldsSomeCatalogue : Tree → Type 0
+HoldsSomeCatalogue tree = (catalogue : CatalogueParts) × HoldsCatalogue tree catalogue
 
 -- how many troves each commit has that the tree's files hold
 pub record HoldsCounts (tree : Tree) (counts : List ℕ) : Type 0 where
@@ -44,16 +49,45 @@ abbrev pub IsAnswer : Type 0 → Bool → Type 0
 IsAnswer P true = P
 IsAnswer P false = P → ⊥
 
+-- ---- what is kept
+
+-- what is kept of a trove: its id and its references, and all else where it is kept whole
+abbrev pub kept : Bool → TroveParts → TroveParts
+kept whole t = record {
+  id = t.id;
+  files = if whole then t.files else [];
+  refs = t.refs;
+  requires_ = if whole then t.requires_ else [];
+  provides = if whole then t.provides else [];
+}
+
+-- the catalogue of commits, of whose troves this is kept
+abbrev pub kept_catalogue : Bool → List Commit → CatalogueParts
+kept_catalogue whole commits = record { commits = length commits; troves = map (kept whole) (troves_of commits) }
+
+-- what is kept of commits that keep the rules
+pub record IsKept (whole : Bool) (catalogue : CatalogueParts) : Type 0 where
+  pub commits : List Commit
+  pub rules : AreCommits commits
+  pub is : catalogue ≡ kept_catalogue whole commits
+
+-- what is kept of the commits that the tree's files hold, which keep the rules
+pub record HoldsKept (whole : Bool) (tree : Tree) (catalogue : CatalogueParts) : Type 0 where
+  pub commits : List Commit
+  pub holds : HoldsCommits tree commits
+  pub rules : AreCommits commits
+  pub is : catalogue ≡ kept_catalogue whole commits
+
 -- ---- many files
 
--- Commits that follow one another, the catalogue of them, and how many troves each has. Where the tree is told, its first
+-- Commits that follow one another, what is kept of them, and how many troves each has. Where the tree is told, its first
 -- files hold them.
-pub record AreRead (told : Bool) (tree : Tree) (catalogue : CatalogueParts) (counts : List ℕ) : Type 0 where
+pub record AreRead (whole told : Bool) (tree : Tree) (catalogue : CatalogueParts) (counts : List ℕ) : Type 0 where
   pub commits : List Commit
   pub first : IsTrue told → HoldsFirst tree 1 commits
   pub few : length commits ≤ COMMITS_LIMIT
   pub following : AreFollowing [] commits
-  pub is : catalogue ≡ catalogue_of commits
+  pub is : catalogue ≡ kept_catalogue whole commits
   pub counts_are : counts ≡ map (λ (troves : Commit). length troves) commits
 
 -- the first commit with a trove that refers to one that isn't there has this number; numbers begin at 1

@@ -32,7 +32,7 @@ pub use counting::{Counts, counts};
 pub use frames::{counted_names, prepared_names};
 pub use journal_log::tree_disk;
 pub use laws::stored_state;
-pub use loading::load;
+pub use loading::{load, tested};
 pub use names::{base_path, commit_path, content_path, contents_path};
 pub use repo_contents::RepoContents;
 pub use repo_index::{cny_base, cny_stream, trove_parts, trove_stream};

@@ -1,9 +1,9 @@
 //! References of troves that are committed.
-ghost use Rattle.std.specs.Prelude.{◌≡◌, ◌↔◌, All, IsSome, IsTrue, List, length, map};
+ghost use Rattle.std.specs.Prelude.{◌≡◌, ◌↔◌, All, Bool, IsSome, IsTrue, List, length, map};
 ghost use Rattle.repo_index.specs.trove-parts.declared.id.TroveId.{TroveId};
 ghost use Rattle.repo_index.specs.Catalogue.{found};
 ghost use Rattle.repo_load.specs.State.{troves_of, Commit, HasRefs};
-ghost use Rattle.repo_load.specs.Loading.{FindsUnresolved};
+ghost use Rattle.repo_load.specs.Loading.{kept, FindsUnresolved};
 
 use repo_index::Catalogue;
 use repo_index::trove_parts::TroveId;
@@ -37,10 +37,10 @@ fn have_refs(catalogue: &Catalogue, troves: &[Trove]) -> bool
     troves.iter().all(|trove| has_refs(catalogue, trove))
 }
 
-/// The number of the first commit with a trove that refers to one that isn't committed. These are the numbers of the commits'
-/// troves; the numbers of commits begin at 1.
+/// The number of the first commit with a trove that refers to one that isn't committed. The catalogue has what is kept of the
+/// commits, and these are the numbers of their troves; the numbers of commits begin at 1.
 pub(crate) fn first_unresolved(catalogue: &Catalogue, counts: &[usize]) -> Option<u64>
-    ensures { (commits : List Commit) → catalogue.now.troves ≡ troves_of commits
+    ensures { (whole : Bool) (commits : List Commit) → catalogue.now.troves ≡ map (kept whole) (troves_of commits)
         → counts.now ≡ map (λ (troves : Commit). length troves) commits → FindsUnresolved commits result }
 {
     let mut rest = catalogue.troves();

@@ -1,16 +1,9 @@
-use Rattle.std.proofs.Common.{◌∙◌}
-use Rattle.repo_load.proofs.CommitsRead.{missing_ref, troves_are}
-use Rattle.repo_load.proofs.LooksLaws.{looks_damage}
+use Rattle.repo_load.proofs.Kept.{holds_whole, kept_whole}
+use Rattle.repo_load.proofs.LooksLaws.{looks_answer}
 use Rattle.repo_load.proofs.loading.load.Goals as goal
 
-pub returns-in-Some-clause-loads : goal.returns-in-Some-clause-loads
-returns-in-Some-clause-loads g c =
-    let told = g.D.TreeDisk.disk.tells in
-    let tree = g.D.TreeDisk.disk.reads c.args.disk.now in
-    let catalogue = c.in_ok-read.read.catalogue in
-    let counts = c.in_ok-read.read.counts.items in
-    let read = c.in_ok-read.ensures.read in
-    looks_damage c.in_ok-read.ensures.looks (λ tells last.
-    missing_ref told tree catalogue counts read _ c.in-Some.number tells last
-    (rw c.in-Some.is at (c.first_unresolved.ensures read.commits (troves_are told tree catalogue counts read) (c.deref.ensures.value ∙ read.counts_are)))
-    c.in_ok-commit_path.ensures)
+pub returns-clause-loads : goal.returns-clause-loads
+returns-clause-loads g c = looks_answer c.in_ok-catalogue.ensures.tests (λ tells. holds_whole (g.D.TreeDisk.disk.reads c.args.disk.now) c.in_ok-catalogue.catalogue)
+
+pub returns-clause-rules : goal.returns-clause-rules
+returns-clause-rules g c = kept_whole c.in_ok-catalogue.catalogue c.in_ok-catalogue.ensures.rules
