@@ -23,6 +23,7 @@ pub mod OpeningDisks
 pub mod OpeningRoot
 pub mod LoadingRepository
 pub mod BothDisks
+pub mod ForRoot
 pub mod Counting
 pub mod ReadingEnds
 pub mod AfterReading

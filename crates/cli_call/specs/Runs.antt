@@ -1,5 +1,6 @@
 -- A command's whole call by its steps: the disks are opened, its input is read, it is performed, and what it answers is written.
 use Rattle.std.specs.Prelude.{◌≡◌, ◌⊎◌, ℕ, List, Result, Ok, Err}
+use Rattle.repo_index.specs.Catalogue.{CatalogueParts, no_commits}
 use Rattle.repo_load.specs.cny-base.Flow.{SourceState}
 use Rattle.cny_laws.specs.system-core.tree-disk.Disk.{DiskModel}
 use Rattle.cny_laws.specs.declared.failure.Failure.{Failure}
@@ -17,6 +18,16 @@ module _ {T P : Type 0} (root_disk : DiskModel T) (repo_disk : DiskModel P) wher
   abbrev pub OpensBoth : T → T → P → P → Result Opened Failure → Type 0
   OpensBoth root root' repo repo' (Ok opened) = AreOpened root_disk repo_disk root root' repo repo' opened
   OpensBoth root root' repo repo' (Err e) = StopsOpening root_disk repo_disk root root' repo repo' e
+
+  -- Both were opened, and nothing is kept of the repository's catalogue.
+  pub record AreOpenedForRoot (root root' : T) (repo repo' : P) (opened : Opened) : Type 0 where
+    pub catalogue : CatalogueParts
+    pub are : AreOpened root_disk repo_disk root root' repo repo' (record { db = opened.db; catalogue = catalogue })
+    pub none : opened.catalogue ≡ no_commits
+
+  abbrev pub OpensForRoot : T → T → P → P → Result Opened Failure → Type 0
+  OpensForRoot root root' repo repo' (Ok opened) = AreOpenedForRoot root root' repo repo' opened
+  OpensForRoot root root' repo repo' (Err e) = StopsOpening root_disk repo_disk root root' repo repo' e
 
   -- ---- disks that are open
 

@@ -9,6 +9,7 @@
 
 mod input;
 mod laws;
+mod no_disk;
 mod opening;
 mod reporting;
 mod stops;
@@ -21,7 +22,8 @@ pub use cny_laws::system_core::{
 pub use cny_laws::{Failure, Opened, system_core};
 pub use input::read_given;
 pub use laws::store_laws;
-pub use opening::open_disks;
+pub use no_disk::NoDisk;
+pub use opening::{open_disks, open_for_root};
 pub use reporting::report;
 pub use stops::{on_repository, on_root};
 pub use texts::joined;

@@ -19,5 +19,5 @@ returns-in_err-recover_disk-clause-opens g c =
 pub returns-clause-opens : goal.returns-clause-opens
 returns-clause-opens g c =
     let disk = g.P.TreeDisk.disk in
-    loaded_opens g.met.P.TreeDisk.laws c.args.repo.now c.recover_disk.new.disk c.load.new.disk c.recover_disk.result c.in_ok-recover_disk.field-0 c.load.result c.in_ok-recover_disk.was
+    loaded_opens HoldsCatalogue g.met.P.TreeDisk.laws c.args.repo.now c.recover_disk.new.disk c.load.new.disk c.recover_disk.result c.in_ok-recover_disk.field-0 c.load.result c.in_ok-recover_disk.was
     (subst (λ p. RecoversAt disk p c.args.repo.now c.recover_disk.new.disk c.recover_disk.result) c.in_ok-directory.ensures c.recover_disk.ensures) c.load.ensures.loads
