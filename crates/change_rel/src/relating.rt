@@ -15,12 +15,12 @@ fn parts_between(alloc: Global, old: &Trove, fresh: &Trove) -> Result<RelParts, 
     requires two_ids { old.now.id ≢ fresh.now.id }
     ensures { IfOk result (λ rel. Leads rel old.now fresh.now) }
 {
+    let from = old.id().copy()?;
+    let to = fresh.id().copy()?;
     let files = difference(alloc, old.files(), fresh.files())?;
     let refs = difference(alloc, old.refs(), fresh.refs())?;
     let required = difference(alloc, old.requires_(), fresh.requires_())?;
     let provided = difference(alloc, old.provides(), fresh.provides())?;
-    let from = old.id().copy()?;
-    let to = fresh.id().copy()?;
     Ok(RelParts {
         old: from,
         fresh: to,
