@@ -1,6 +1,7 @@
 pub mod FormEnds
 pub mod RecordEnds
 pub mod Performing
+pub mod ForRoot
 pub mod RestoreEnds
 pub mod Calls
 pub mod Living

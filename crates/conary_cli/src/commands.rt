@@ -3,7 +3,7 @@ ghost use Rattle.std.specs.Prelude.{◌≡◌, List, ℕ, not, true, OnOk};
 ghost use Rattle.root_commands.specs.cli-call.Alone.{AnswersByContents, AnswersByTree, PerformsAlone};
 ghost use Rattle.root_commands.specs.cli-call.Command.{disks, AreReady, Performs};
 ghost use Rattle.root_commands.specs.cli-call.tree-disk.Disk.{Reads};
-ghost use Rattle.conary_cli.specs.Commands.{erasing, meaning, verify, PerformsCommand};
+ghost use Rattle.conary_cli.specs.Commands.{erasing, is_of_root, meaning, verify, PerformsCommand};
 
 use cli_words::Command;
 use repo_commands::{
@@ -42,6 +42,33 @@ pub fn takes_input(command: &Command) -> bool
         Command::Serve => true,
         Command::AskMirror => false,
         Command::TakeMirror => true,
+        Command::Move { .. } => false,
+    }
+}
+
+/// Whether the command works on the root alone.
+pub fn works_on_root(command: &Command) -> bool
+    ensures { result ≡ is_of_root command.now }
+{
+    match command {
+        Command::Install { .. } => true,
+        Command::ShowChangeSet => true,
+        Command::Cook { .. } => false,
+        Command::Commit => false,
+        Command::ListCommitted { .. } => false,
+        Command::Update { .. } => false,
+        Command::UpdateByInput { .. } => false,
+        Command::Sync { .. } => false,
+        Command::Erase { .. } => true,
+        Command::Rollback { .. } => true,
+        Command::ListInstalled { .. } => true,
+        Command::Verify { full, .. } => !*full,
+        Command::ListJobs => true,
+        Command::LocalChanges { .. } => true,
+        Command::SendChanges { .. } => false,
+        Command::Serve => false,
+        Command::AskMirror => false,
+        Command::TakeMirror => false,
         Command::Move { .. } => false,
     }
 }

@@ -1,5 +1,5 @@
 //! A whole call of the program.
-ghost use Rattle.std.specs.Prelude.{string_bytes, map, IsTrue, OnOk, Result};
+ghost use Rattle.std.specs.Prelude.{◌≡◌, string_bytes, map, true, IsTrue, OnOk, Result};
 ghost use Rattle.root_commands.specs.cli-call.cny-laws.declared.failure.Failure.{Failure};
 ghost use Rattle.cli_words.specs.declared.call_words.Call.{Call};
 ghost use Rattle.cny_version.specs.cny-base.Flow.{sink_state, source_state};
@@ -8,17 +8,18 @@ ghost use Rattle.root_commands.specs.cli-call.Runs.{RunsCall, RunsOpen};
 ghost use Rattle.root_commands.specs.cli-call.Command.{disks, AreReady};
 ghost use Rattle.root_commands.specs.cli-call.Line.{moment, RunsLine};
 ghost use Rattle.cli_words.specs.Calls.{AreCall};
-ghost use Rattle.conary_cli.specs.Commands.{meaning, scope_of};
+ghost use Rattle.conary_cli.specs.Commands.{is_of_root, meaning, scope_of};
 ghost use Rattle.conary_cli.specs.Program.{IsProgramCall, IsSomething, RunsProgram, RunsSomething};
 ghost use Rattle.conary_cli.specs.Records.{EndsOpened, EndsWhole};
 
-use crate::commands::{perform, takes_input};
+use crate::commands::{perform, takes_input, works_on_root};
 use crate::several::{run_batch, run_demo};
 use cli_words::{Call, Command, read_call};
 use cny_version::cny_base::{Sink, Source};
 use root_commands::cli_call::tree_disk::TreeDisk;
 use root_commands::cli_call::{
-    Failure, Opened, open_disks, read_given, report, store_laws, write_answer,
+    Failure, NoDisk, Opened, open_disks, open_for_root, read_given, report, store_laws,
+    write_answer,
 };
 use std::alloc::Global;
 
@@ -61,6 +62,27 @@ fn run_open<I: Source, O: Sink, T: TreeDisk, P: TreeDisk>(
     run_command(alloc, command, bytes.get(), opened, out, repo, root)
 }
 
+// Opens both disks, and performs a command that works on the root alone: it is given no repository.
+fn run_for_root<I: Source, O: Sink, T: TreeDisk, P: TreeDisk>(
+    alloc: Global,
+    command: &Command,
+    input: &mut I,
+    out: &mut O,
+    repo: &mut P,
+    root: &mut T,
+) -> Result<(), Failure>
+    requires { is_of_root command.now ≡ true }
+    ensures runs { RunsCall T.disk P.disk (scope_of command.now) (meaning command.now) (call_state I.source O.sink input.old out.old root.old repo.old)
+        (call_state I.source O.sink input.new out.new root.new repo.new) result }
+    ensures records { EndsOpened T.disk P.disk command.now (call_state I.source O.sink input.old out.old root.old repo.old)
+        (call_state I.source O.sink input.new out.new root.new repo.new) result }
+{
+    store_laws();
+    let mut opened = open_for_root(alloc, repo, root)?;
+    let mut none = NoDisk;
+    run_open(alloc, command, input, &mut opened, out, &mut none, root)
+}
+
 // Opens both disks, and performs a command.
 fn run_call<I: Source, O: Sink, T: TreeDisk, P: TreeDisk>(
     alloc: Global,
@@ -75,6 +97,9 @@ fn run_call<I: Source, O: Sink, T: TreeDisk, P: TreeDisk>(
     ensures records { EndsOpened T.disk P.disk command.now (call_state I.source O.sink input.old out.old root.old repo.old)
         (call_state I.source O.sink input.new out.new root.new repo.new) result }
 {
+    if works_on_root(command) {
+        return run_for_root(alloc, command, input, out, repo, root);
+    }
     let mut opened = open_disks(alloc, repo, root)?;
     run_open(alloc, command, input, &mut opened, out, repo, root)
 }
