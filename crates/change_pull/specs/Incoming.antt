@@ -1,14 +1,17 @@
 -- Contents of a change set, in memory or in files.
 use Rattle.std.specs.Prelude.{◌≡◌, ℕ, ◌<◌, Bool, ◌&&◌, ◌==◌, IsTrue, List, [], length, map, get_or, All, Option, Some, None}
+use Rattle.std.specs.List.Sorted.{IsStrictlySortedBy}
 use Rattle.std.specs.Str.{bytes_eq}
+use Rattle.sha1.specs.Sha1.{sha1}
 use Rattle.journal_log.specs.tree-disk.Tree.{Name, Tree}
 use Rattle.journal_log.specs.tree-disk.Clear.{is_within}
-use Rattle.journal_log.specs.tree-disk.Rows.{bytes_at}
+use Rattle.journal_log.specs.tree-disk.Rows.{bytes_at, is_file_at}
 use Rattle.change_set.specs.declared.change.Carried.{Carried}
 use Rattle.change_set.specs.declared.change.Part.{Part}
 use Rattle.change_set.specs.declared.change.ChangeSet.{ChangeSet}
+use Rattle.change_set.specs.ChangeSet.{content_cmp}
 use Rattle.change_pull.specs.declared.staged.Staged.{Staged}
-use Rattle.change_pull.specs.Files.{carried_in}
+use Rattle.change_pull.specs.Files.{carried_in, number_path}
 
 -- ---- places and names
 
@@ -32,6 +35,22 @@ pub record IsStaged (dir : Name) (tree : Tree) (one : Staged) : Type 0 where
 
 abbrev pub AreStaged : Name → Tree → List Staged → Type 0
 AreStaged dir tree contents = All (IsStaged dir tree) contents
+
+-- each has its SHA-1 as its name, and the names rise
+pub record AreHashed (contents : List Carried) : Type 0 where
+  pub hash : All (λ (content : Carried). content.name ≡ sha1 content.bytes) contents
+  pub rising : IsStrictlySortedBy content_cmp contents
+
+-- the staged content of a place: its file stands in the directory, under the number of the place
+pub record StandsAtNumber (dir : Name) (tree : Tree) (place : ℕ) (one : Staged) : Type 0 where
+  pub path : one.path ≡ number_path dir place
+  pub stands : IsTrue (is_file_at tree one.path)
+
+-- staged contents, each of the size that is told, under the number of its place, and with its SHA-1 as its name
+pub record StandNumbered (dir : Name) (contents : List Staged) (tree : Tree) : Type 0 where
+  pub staged : AreStaged dir tree contents
+  pub each : (place : ℕ) (one : Staged) → place < length contents → one ≡ get_or contents place one → StandsAtNumber dir tree place one
+  pub hashed : AreHashed (map (carried_in tree) contents)
 
 -- the change set of these parts, with the contents that stand in files
 abbrev pub staged_set : List Part → List Staged → Tree → ChangeSet

@@ -10,7 +10,7 @@ ghost use Rattle.journal_log.specs.tree-disk.Tree.{Name, Tree};
 ghost use Rattle.change_pull.specs.Files.{HasRoomFrom, HoldsFiles, staged_of};
 ghost use Rattle.change_pull.specs.Feeds.{Feeds, HasFeedCause};
 ghost use Rattle.change_pull.specs.Given.{IsGiven, IsUndecided, IfRefused, UnlessFailing, count_of, set_in, told_stop};
-ghost use Rattle.change_pull.specs.Incoming.{AreStaged};
+ghost use Rattle.change_pull.specs.Incoming.{StandNumbered};
 ghost use Rattle.change_pull.specs.Open.{IsOpen, files};
 
 use crate::feeding::take_all;
@@ -155,9 +155,9 @@ impl Pull {
         // The parts, and the contents that stand in the files, are the change set.
         ensures value { (dir : Name) (given : List ℕ) (it : IsUndecided self dir given) → IfOk result (λ pulled. (tree : Tree)
             → HoldsFiles tree dir (files it) → IsSetStream (set_in tree pulled) given) }
-        // Each content stands in its file, with the size that is told.
+        // Each content stands under its number, with its SHA-1 as its name and the size that is told.
         ensures staged { (dir : Name) (given : List ℕ) (it : IsUndecided self dir given) → IsTrue (is_path dir) → dir ≢ root
-            → IfOk result (λ pulled. (tree : Tree) → HoldsFiles tree dir (files it) → AreStaged dir tree pulled.staged) }
+            → IfOk result (λ pulled. (tree : Tree) → HoldsFiles tree dir (files it) → StandNumbered dir pulled.staged tree) }
         ensures refused { (dir : Name) (given : List ℕ) → IsGiven self dir given → IfErr result (IsFaultOf given) }
         ensures exact { (dir : Name) (given : List ℕ) (refusal : Refusal) → IsGiven self dir given → IsFirstFault given refusal
             → MatchResult result (λ pulled. ⊥) (IsRefusalOrMemory refusal) }

@@ -1,4 +1,6 @@
 mod Carrying
+pub mod WholeWrites
+mod StagedPlaces
 pub mod Changing
 mod Fitting
 pub mod GatherLaws

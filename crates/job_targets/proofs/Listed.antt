@@ -32,8 +32,9 @@ use Rattle.tree_scan.specs.Marks.{fingerprint}
 use Rattle.tree_scan.specs.declared.mark.Mark.{Mark}
 use Rattle.content_store.specs.Contents.{Answers}
 use Rattle.job_targets.specs.Contents.{Finds, FindsBehind, carried_bytes}
+use Rattle.job_targets.specs.Carrying.{HaveWants}
 use Rattle.job_targets.specs.Outcome.{AreChanges}
-use Rattle.job_targets.specs.Targets.{entries_at, entries_of_puts, entry_at, entry_of, entry_of_put, first_large, HasEntry, HasPut, HaveEntries, HavePuts, IsChange, IsPutOf, IsTarget, large_size}
+use Rattle.job_targets.specs.Targets.{entries_at, entries_of_puts, entry_at, entry_of, entry_of_put, first_large, HasEntry, HasPut, HaveEntries, HavePuts, IsChange, IsTarget, large_size}
 use Rattle.job_targets.proofs.Standing.{tellable}
 use Rattle.change_set.specs.cny-base.Sized.{of_size}
 
@@ -74,17 +75,13 @@ finds_by carried answers more tree x size name found widen finds = behind (of_si
     behind (Some bytes) is = is
     behind None is = record { answer = is.answer; answered = widen name is.answer is.answered; first = is.first }
 
-target_by : (carried : List Carried) (answers more : Answers) (tree : Tree) (x : Planned) (rec : Option FileRec) (w : Want)
+pub target_by : (carried : List Carried) (answers more : Answers) (tree : Tree) (x : Planned) (rec : Option FileRec) (w : Want)
     → ((n : List ℕ) (f : Option (List ℕ)) → answers n f → more n f) → IsTarget carried answers tree x rec w → IsTarget carried more tree x rec w
 target_by carried answers more tree x None w widen is = is
 target_by carried answers more tree x (Some (rec.Dir mode owner)) w widen is = is
 target_by carried answers more tree x (Some (rec.File mode owner flags size name)) w widen is =
     record { bytes = is.bytes; found = finds_by carried answers more tree x size name (Some is.bytes) widen is.found; is = is.is }
 target_by carried answers more tree x (Some (rec.Link target)) w widen is = is
-
-pub put_by : (carried : List Carried) (answers more : Answers) (tree : Tree) (x : Planned) (p : Put)
-    → ((n : List ℕ) (f : Option (List ℕ)) → answers n f → more n f) → IsPutOf carried answers tree x p → IsPutOf carried more tree x p
-put_by carried answers more tree x p widen is = record { path = is.path; target = target_by carried answers more tree x x.want p.want widen is.target }
 
 -- ---- sizes
 
@@ -124,14 +121,14 @@ large_here xs i x size within is before here =
 
 -- ---- the order of the writes
 
-pub rises_as : (xs : List Planned) (ps : List Put) → IsStrictlySortedBy planned_cmp xs → HavePuts xs ps → Rises ps
+pub rises_as : (Gives : Want → Type 0) (xs : List Planned) (ps : List Put) → IsStrictlySortedBy planned_cmp xs → HaveWants Gives xs ps → Rises ps
 unfolding IsStrictlySortedBy
-rises_as [] [] rises have = tt
-rises_as [] (p ∷ ps) rises have = absurd have
-rises_as (x ∷ xs) [] rises have = absurd have
-rises_as (x ∷ xs) (p ∷ ps) rises have = (before xs ps rises.0 have.1, rises_as xs ps rises.1 have.1)
+rises_as Gives [] [] rises have = tt
+rises_as Gives [] (p ∷ ps) rises have = absurd have
+rises_as Gives (x ∷ xs) [] rises have = absurd have
+rises_as Gives (x ∷ xs) (p ∷ ps) rises have = (before xs ps rises.0 have.1, rises_as Gives xs ps rises.1 have.1)
   where
-    before : (ys : List Planned) (qs : List Put) → AllByRecursion (λ (y : Planned). planned_cmp x y ≡ Less) ys → HavePuts ys qs → ComesBefore p qs
+    before : (ys : List Planned) (qs : List Put) → AllByRecursion (λ (y : Planned). planned_cmp x y ≡ Less) ys → HaveWants Gives ys qs → ComesBefore p qs
     before [] [] all rest = tt
     before [] (q ∷ qs) all rest = absurd rest
     before (y ∷ ys) [] all rest = absurd rest

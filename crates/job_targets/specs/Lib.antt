@@ -5,6 +5,8 @@ pub mod Outcome
 pub mod Old
 pub mod Agree
 pub mod Wanted
+pub mod Carrying
+pub mod CarryingLaws
 pub use Rattle.change_set.specs as change-set
 pub use Rattle.local_db.specs.cny-base
 pub use Rattle.local_db.specs.cny-stream
@@ -14,3 +16,4 @@ pub use Rattle.local_db.specs.tree-disk
 pub use Rattle.local_db.specs.tree-journal
 pub use Rattle.local_db.specs.trove-parts
 pub use Rattle.local_db.specs.trove-stream
+pub use Rattle.change_pull.specs as change-pull

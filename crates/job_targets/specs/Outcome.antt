@@ -25,7 +25,7 @@ use Rattle.local_db.specs.tree-disk.Tree.{Tree, may_stand}
 use Rattle.tree_scan.specs.Marks.{fingerprint}
 use Rattle.tree_scan.specs.OnlyReads.{IsStopBy}
 use Rattle.job_targets.specs.declared.targets.Targets.{Targets}
-use Rattle.job_targets.specs.Contents.{Finds}
+use Rattle.job_targets.specs.Contents.{Finds, FindsElsewhere}
 use Rattle.content_store.specs.Contents.{Answers}
 use Rattle.content_store.specs.Searches.{IsSearchStopBy}
 use Rattle.job_targets.specs.Targets.{ArePutsOf, entries_at, entries_of_puts, entry_of, first_large, HaveEntries, HavePuts}
@@ -36,6 +36,11 @@ use Rattle.job_targets.specs.Targets.{ArePutsOf, entries_at, entries_of_puts, en
 abbrev pub IsUnfound : List Carried → Answers → Tree → Planned → ℕ → List ℕ → Refusal → Type 0
 IsUnfound carried answers tree x size name (MissingContent missing) = (missing ≡ name) × Finds carried answers tree x size name None
 IsUnfound carried answers tree x size name _ = ⊥
+
+-- no such content is found elsewhere than among the carried ones, and this refusal says so
+abbrev pub IsUnfoundElsewhere : Answers → Tree → Planned → ℕ → List ℕ → Refusal → Type 0
+IsUnfoundElsewhere answers tree x size name (MissingContent missing) = (missing ≡ name) × FindsElsewhere answers tree x size name None
+IsUnfoundElsewhere answers tree x size name _ = ⊥
 
 -- the record at a planned path is that of a file of which no content is found
 abbrev pub IsMissing : List Carried → Answers → Tree → Planned → Option FileRec → Refusal → Type 0

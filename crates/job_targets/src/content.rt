@@ -1,21 +1,15 @@
-//! Where the content of a file is found.
-ghost use Rattle.std.specs.Prelude.{◌≡◌, ◌↔◌, IfErr, IfOk, IfSome, IsTrue, Ok, Some, All};
-ghost use Rattle.std.specs.List.Sorted.{IsStrictlySortedBy};
-ghost use Rattle.std.specs.Option.{option_copied};
-ghost use Rattle.sha1.specs.Sha1.{sha1};
-ghost use Rattle.change_set.specs.declared.change.Carried as declared;
-ghost use Rattle.change_set.specs.ChangeSet.{content_cmp};
+//! Where the content of a file is found that isn't carried.
+ghost use Rattle.std.specs.Prelude.{◌≡◌, ◌↔◌, IfErr, IfOk, IfSome, IsTrue, Ok, Some};
 ghost use Rattle.conflict_plan.specs.Orphans.{IsSeenPlan};
 ghost use Rattle.content_store.specs.Contents.{KeepsContents, StopsFor};
 ghost use Rattle.job_targets.specs.Old.{IsContent};
 ghost use Rattle.local_db.specs.tree-disk.Rows.{bytes_at, is_file_at};
 ghost use Rattle.local_db.specs.tree-disk.Steps.{IsDiskStop, Tests};
 ghost use Rattle.job_targets.specs.Contents as spec;
-ghost use Rattle.job_targets.specs.Contents.{carried_bytes, Finds, FindsElsewhere, IsFarContent, of_size, standing};
+ghost use Rattle.job_targets.specs.Contents.{FindsElsewhere, IsFarContent, standing};
 ghost use Rattle.content_store.specs.Searches.{IsSearchStop};
 ghost use Rattle.job_targets.specs.Gathering.{Gathers};
 
-use change_set::Carried;
 use conflict_plan::Planned;
 use content_store::{Contents, FarStop};
 use local_db::cny_base::{Bytes, Path, Stop};
@@ -23,24 +17,6 @@ use local_db::tree_disk::{TreeDisk, steps};
 use sha1::Sha1;
 use std::alloc::Global;
 use tree_scan::Mark;
-
-// The content that is carried under a name, if it has this size.
-fn carried_content<'a>(carried: &'a [Carried], size: u32, name: &[u8; 20]) -> Option<&'a [u8]>
-    requires { IsStrictlySortedBy content_cmp carried.now }
-    ensures { option_copied result ≡ of_size size (carried_bytes carried.now name.now) }
-{
-    match carried.binary_search_by(|content| content.name.cmp(name)) {
-        Ok(place) => {
-            let bytes = carried[place].bytes.get();
-            if bytes.len() == size as usize {
-                Some(bytes)
-            } else {
-                None
-            }
-        }
-        Err(_) => None,
-    }
-}
 
 // Whether it is the fingerprint of a file of this size and SHA-1, of any mode.
 fn is_file_of(mark: &Mark, size: u32, name: &[u8; 20]) -> bool
@@ -136,8 +112,9 @@ fn far_content<C: Contents>(
     Ok(Some(bytes))
 }
 
-// The content, which isn't carried: that of the contents, and else the bytes of the file that stands at the path.
-fn content_elsewhere<T: TreeDisk, C: Contents>(
+/// The content, which isn't carried: that of the contents, and else the bytes of the file that stands at the path, if it is one of
+/// this size and SHA-1. Only where there is none of the former the latter is asked.
+pub(crate) fn content_elsewhere<T: TreeDisk, C: Contents>(
     alloc: Global,
     root: &mut T,
     far: &mut C,
@@ -157,30 +134,4 @@ fn content_elsewhere<T: TreeDisk, C: Contents>(
     }
     let standing = standing_content(alloc, root, planned, size, name)?;
     Ok(standing)
-}
-
-/// The content of this size and SHA-1 for a planned path: the carried one, else that of the contents, else the bytes of the file
-/// that stands at the path, if it is one of this size and SHA-1. Only where there is none of the former the next is asked.
-pub(crate) fn find_content<T: TreeDisk, C: Contents>(
-    alloc: Global,
-    root: &mut T,
-    far: &mut C,
-    carried: &[Carried],
-    planned: &Planned,
-    size: u32,
-    name: &[u8; 20],
-) -> Result<Option<Bytes>, Stop>
-    requires hash { All (λ (content : declared.Carried). content.name ≡ sha1 content.bytes) carried.now }
-    requires rising { IsStrictlySortedBy content_cmp carried.now }
-    requires seen { IsTrue T.disk.tells → IsSeenPlan (T.disk.reads root.old) planned.now }
-    ensures gathers { Gathers T.disk C.contents (λ tree found. Finds carried.now (C.contents.answers far.old) tree planned.now size name.now found) (λ tree why. ⊥)
-        root.old root.new far.old far.new result }
-    ensures content { IfOk result (λ found. IfSome found (IsContent size name.now)) }
-    ensures stops { IfErr result IsSearchStop }
-{
-    if let Some(bytes) = carried_content(carried, size, name) {
-        let bytes = Bytes::new(alloc, bytes)?;
-        return Ok(Some(bytes));
-    }
-    content_elsewhere(alloc, root, far, planned, size, name)
 }

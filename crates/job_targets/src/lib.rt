@@ -7,6 +7,7 @@
 #![tactic(auto)]
 
 mod agreeing;
+mod carried;
 mod content;
 mod entries;
 mod entry;
@@ -19,6 +20,8 @@ mod sizes;
 mod targets;
 
 pub use agreeing::{old_bytes, stashable};
+pub use carried::{Carries, InMemory};
+pub use change_pull;
 pub use change_set;
 pub use content_store;
 pub use entry::{Entries, Entry};
@@ -27,4 +30,4 @@ pub use local_db::{cny_base, cny_stream, journal_log, tree_disk, trove_parts, tr
 pub use marks::mark_of;
 pub use old::old_node;
 pub use rising::are_rising;
-pub use targets::{Targets, targets_of};
+pub use targets::{Targets, targets_by, targets_of};

@@ -1,20 +1,18 @@
 //! The write set of a plan.
-ghost use Rattle.std.specs.Prelude.{◌≡◌, IfErr, IfOk, IsTrue, All};
+ghost use Rattle.std.specs.Prelude.{◌≡◌, IfErr, IfOk, IsTrue, Some, All};
 ghost use Rattle.std.specs.List.Sorted.{IsStrictlySortedBy};
-ghost use Rattle.sha1.specs.Sha1.{sha1};
-ghost use Rattle.change_set.specs.declared.change.Carried as declared;
-ghost use Rattle.change_set.specs.ChangeSet.{content_cmp};
 ghost use Rattle.conflict_plan.specs.Orphans.{IsSeenPlan};
 ghost use Rattle.conflict_plan.specs.Plan.{mark_of_want, planned_cmp};
-ghost use Rattle.job_targets.specs.Old.{HasMark};
 ghost use Rattle.tree_scan.specs.declared.mark.Mark.TheVariants as mark;
 ghost use Rattle.tree_scan.specs.Marks.{fingerprint_of_record};
+ghost use Rattle.job_targets.specs.Carrying.{AreStagedPuts, AreWholePuts, HasWant, HaveWants, IsElsewhereFile, IsWantOf, IsWholeFile, IsWholePut, IsWholeTarget};
+ghost use Rattle.job_targets.specs.Contents.{FindsElsewhere};
 ghost use Rattle.job_targets.specs.Gathering.{Gathers};
-ghost use Rattle.job_targets.specs.Outcome.{IsFirstUnfound, IsMissing, IsMissingStop, IsUnfound};
-ghost use Rattle.job_targets.specs.Targets.{ArePutsOf, HasPut, HavePuts, IsFoundFile, IsPutOf, IsTarget};
+ghost use Rattle.job_targets.specs.Old.{HasMark};
+ghost use Rattle.job_targets.specs.Outcome.{IsFirstUnfound, IsMissing, IsMissingStop, IsUnfound, IsUnfoundElsewhere};
 
-use crate::content::find_content;
-use change_set::Carried;
+use crate::carried::Carries;
+use crate::content::content_elsewhere;
 use conflict_plan::Planned;
 use content_store::Contents;
 use local_db::cny_base::{Copies, Mode, Refusal, Stop};
@@ -23,49 +21,72 @@ use local_db::journal_log::{Put, Puts, Want};
 use local_db::tree_disk::TreeDisk;
 use std::alloc::Global;
 
-// A file of this mode, with the content that is found. `MissingContent` where none is.
-fn file_want<T: TreeDisk, C: Contents>(
+// A file of this mode, with the content that is found, which isn't carried. `MissingContent` where none is.
+fn elsewhere_want<T: TreeDisk, C: Contents>(
     alloc: Global,
     root: &mut T,
     far: &mut C,
-    carried: &[Carried],
     planned: &Planned,
     mode: Mode,
     size: u32,
     name: &[u8; 20],
 ) -> Result<Want, Stop>
-    requires hash { All (λ (content : declared.Carried). content.name ≡ sha1 content.bytes) carried.now }
-    requires rising { IsStrictlySortedBy content_cmp carried.now }
-    requires seen { IsTrue T.disk.tells → IsSeenPlan (T.disk.reads root.old) planned.now }
-    ensures gathers { Gathers T.disk C.contents (λ tree want. IsFoundFile carried.now (C.contents.answers far.old) tree planned.now mode size name.now want)
-        (λ tree. IsUnfound carried.now (C.contents.answers far.old) tree planned.now size name.now)
+    requires { IsTrue T.disk.tells → IsSeenPlan (T.disk.reads root.old) planned.now }
+    ensures gathers { Gathers T.disk C.contents (λ tree want. IsElsewhereFile (C.contents.answers far.old) tree planned.now mode size name.now want)
+        (λ tree. IsUnfoundElsewhere (C.contents.answers far.old) tree planned.now size name.now)
         root.old root.new far.old far.new result }
     ensures marked { IfOk result (HasMark (mark.File mode size name.now)) }
     ensures stops { IfErr result IsMissingStop }
 {
-    let found = find_content(alloc, root, far, carried, planned, size, name)?;
+    let found = content_elsewhere(alloc, root, far, planned, size, name)?;
     match found {
         Some(bytes) => Ok(Want::File { mode, bytes }),
         None => Err(Stop::Refused(Refusal::MissingContent { name: *name })),
     }
 }
 
-// What is to stand at a planned path, by its record.
-fn recorded_want<T: TreeDisk, C: Contents>(
+// A file of this mode, with the content that is carried, and else the one that is found. `MissingContent` where none is.
+fn file_want<T: TreeDisk, C: Contents, I: Carries>(
     alloc: Global,
     root: &mut T,
     far: &mut C,
-    carried: &[Carried],
+    carried: &I,
+    planned: &Planned,
+    mode: Mode,
+    size: u32,
+    name: &[u8; 20],
+) -> Result<Want, Stop>
+    requires sound { I.sound carried.now }
+    requires stand { IsTrue T.disk.tells → I.stand carried.now (T.disk.reads root.old) }
+    requires seen { IsTrue T.disk.tells → IsSeenPlan (T.disk.reads root.old) planned.now }
+    ensures gathers { Gathers T.disk C.contents (λ tree want. IsWholeFile (I.listed carried.now tree) (C.contents.answers far.old) tree planned.now mode size name.now want)
+        (λ tree. IsUnfound (I.listed carried.now tree) (C.contents.answers far.old) tree planned.now size name.now)
+        root.old root.new far.old far.new result }
+    ensures marked { IfOk result (IsWantOf (I.gives carried.now) (mark.File mode size name.now)) }
+    ensures stops { IfErr result IsMissingStop }
+{
+    if let Some(want) = carried.file(alloc, mode, size, name)? {
+        return Ok(want);
+    }
+    elsewhere_want(alloc, root, far, planned, mode, size, name)
+}
+
+// What is to stand at a planned path, by its record.
+fn recorded_want<T: TreeDisk, C: Contents, I: Carries>(
+    alloc: Global,
+    root: &mut T,
+    far: &mut C,
+    carried: &I,
     planned: &Planned,
     rec: &FileRec,
 ) -> Result<Want, Stop>
-    requires hash { All (λ (content : declared.Carried). content.name ≡ sha1 content.bytes) carried.now }
-    requires rising { IsStrictlySortedBy content_cmp carried.now }
+    requires sound { I.sound carried.now }
+    requires stand { IsTrue T.disk.tells → I.stand carried.now (T.disk.reads root.old) }
     requires seen { IsTrue T.disk.tells → IsSeenPlan (T.disk.reads root.old) planned.now }
-    ensures gathers { Gathers T.disk C.contents (λ tree want. IsTarget carried.now (C.contents.answers far.old) tree planned.now (Some rec.now) want)
-        (λ tree. IsMissing carried.now (C.contents.answers far.old) tree planned.now (Some rec.now))
+    ensures gathers { Gathers T.disk C.contents (λ tree want. IsWholeTarget (I.listed carried.now tree) (C.contents.answers far.old) tree planned.now (Some rec.now) want)
+        (λ tree. IsMissing (I.listed carried.now tree) (C.contents.answers far.old) tree planned.now (Some rec.now))
         root.old root.new far.old far.new result }
-    ensures marked { IfOk result (HasMark (fingerprint_of_record rec.now)) }
+    ensures marked { IfOk result (IsWantOf (I.gives carried.now) (fingerprint_of_record rec.now)) }
     ensures stops { IfErr result IsMissingStop }
 {
     match rec {
@@ -83,20 +104,20 @@ fn recorded_want<T: TreeDisk, C: Contents>(
 }
 
 // What is to stand at a planned path.
-fn planned_want<T: TreeDisk, C: Contents>(
+fn planned_want<T: TreeDisk, C: Contents, I: Carries>(
     alloc: Global,
     root: &mut T,
     far: &mut C,
-    carried: &[Carried],
+    carried: &I,
     planned: &Planned,
 ) -> Result<Want, Stop>
-    requires hash { All (λ (content : declared.Carried). content.name ≡ sha1 content.bytes) carried.now }
-    requires rising { IsStrictlySortedBy content_cmp carried.now }
+    requires sound { I.sound carried.now }
+    requires stand { IsTrue T.disk.tells → I.stand carried.now (T.disk.reads root.old) }
     requires seen { IsTrue T.disk.tells → IsSeenPlan (T.disk.reads root.old) planned.now }
-    ensures gathers { Gathers T.disk C.contents (λ tree want. IsTarget carried.now (C.contents.answers far.old) tree planned.now planned.now.want want)
-        (λ tree. IsMissing carried.now (C.contents.answers far.old) tree planned.now planned.now.want)
+    ensures gathers { Gathers T.disk C.contents (λ tree want. IsWholeTarget (I.listed carried.now tree) (C.contents.answers far.old) tree planned.now planned.now.want want)
+        (λ tree. IsMissing (I.listed carried.now tree) (C.contents.answers far.old) tree planned.now planned.now.want)
         root.old root.new far.old far.new result }
-    ensures marked { IfOk result (HasMark (mark_of_want planned.now.want)) }
+    ensures marked { IfOk result (IsWantOf (I.gives carried.now) (mark_of_want planned.now.want)) }
     ensures stops { IfErr result IsMissingStop }
 {
     let Some(rec) = &planned.want else {
@@ -106,20 +127,20 @@ fn planned_want<T: TreeDisk, C: Contents>(
 }
 
 // The write of a planned path.
-fn planned_put<T: TreeDisk, C: Contents>(
+fn planned_put<T: TreeDisk, C: Contents, I: Carries>(
     alloc: Global,
     root: &mut T,
     far: &mut C,
-    carried: &[Carried],
+    carried: &I,
     planned: &Planned,
 ) -> Result<Put, Stop>
-    requires hash { All (λ (content : declared.Carried). content.name ≡ sha1 content.bytes) carried.now }
-    requires rising { IsStrictlySortedBy content_cmp carried.now }
+    requires sound { I.sound carried.now }
+    requires stand { IsTrue T.disk.tells → I.stand carried.now (T.disk.reads root.old) }
     requires seen { IsTrue T.disk.tells → IsSeenPlan (T.disk.reads root.old) planned.now }
-    ensures gathers { Gathers T.disk C.contents (λ tree. IsPutOf carried.now (C.contents.answers far.old) tree planned.now)
-        (λ tree. IsMissing carried.now (C.contents.answers far.old) tree planned.now planned.now.want)
+    ensures gathers { Gathers T.disk C.contents (λ tree. IsWholePut (I.listed carried.now tree) (C.contents.answers far.old) tree planned.now)
+        (λ tree. IsMissing (I.listed carried.now tree) (C.contents.answers far.old) tree planned.now planned.now.want)
         root.old root.new far.old far.new result }
-    ensures has { IfOk result (HasPut planned.now) }
+    ensures has { IfOk result (HasWant (I.gives carried.now) planned.now) }
     ensures stops { IfErr result IsMissingStop }
 {
     let want = planned_want(alloc, root, far, carried, planned)?;
@@ -128,20 +149,20 @@ fn planned_put<T: TreeDisk, C: Contents>(
 }
 
 // The writes of the planned paths, in their order.
-fn put_list<T: TreeDisk, C: Contents>(
+fn put_list<T: TreeDisk, C: Contents, I: Carries>(
     alloc: Global,
     root: &mut T,
     far: &mut C,
-    carried: &[Carried],
+    carried: &I,
     planned: &[Planned],
 ) -> Result<Vec<Put>, Stop>
-    requires hash { All (λ (content : declared.Carried). content.name ≡ sha1 content.bytes) carried.now }
-    requires rising { IsStrictlySortedBy content_cmp carried.now }
+    requires sound { I.sound carried.now }
+    requires stand { IsTrue T.disk.tells → I.stand carried.now (T.disk.reads root.old) }
     requires seen { IsTrue T.disk.tells → All (IsSeenPlan (T.disk.reads root.old)) planned.now }
-    ensures gathers { Gathers T.disk C.contents (λ tree puts. ArePutsOf carried.now (C.contents.answers far.old) tree planned.now puts.items)
-        (λ tree. IsFirstUnfound carried.now (C.contents.answers far.old) tree planned.now)
+    ensures gathers { Gathers T.disk C.contents (λ tree puts. AreWholePuts (I.listed carried.now tree) (C.contents.answers far.old) tree planned.now puts.items)
+        (λ tree. IsFirstUnfound (I.listed carried.now tree) (C.contents.answers far.old) tree planned.now)
         root.old root.new far.old far.new result }
-    ensures have { IfOk result (λ puts. HavePuts planned.now puts.items) }
+    ensures have { IfOk result (λ puts. HaveWants (I.gives carried.now) planned.now puts.items) }
     ensures stops { IfErr result IsMissingStop }
 {
     let mut puts = Vec::new(alloc);
@@ -154,21 +175,21 @@ fn put_list<T: TreeDisk, C: Contents>(
 
 /// The write set of the planned paths, which rise. `MissingContent` exactly for the first path at which a file is to stand whose
 /// content isn't found.
-pub(crate) fn puts_of<T: TreeDisk, C: Contents>(
+pub(crate) fn puts_of<T: TreeDisk, C: Contents, I: Carries>(
     alloc: Global,
     root: &mut T,
     far: &mut C,
-    carried: &[Carried],
+    carried: &I,
     planned: &[Planned],
 ) -> Result<Puts, Stop>
-    requires hash { All (λ (content : declared.Carried). content.name ≡ sha1 content.bytes) carried.now }
-    requires rising { IsStrictlySortedBy content_cmp carried.now }
+    requires sound { I.sound carried.now }
+    requires stand { IsTrue T.disk.tells → I.stand carried.now (T.disk.reads root.old) }
     requires seen { IsTrue T.disk.tells → All (IsSeenPlan (T.disk.reads root.old)) planned.now }
     requires in_order { IsStrictlySortedBy planned_cmp planned.now }
-    ensures gathers { Gathers T.disk C.contents (λ tree. ArePutsOf carried.now (C.contents.answers far.old) tree planned.now)
-        (λ tree. IsFirstUnfound carried.now (C.contents.answers far.old) tree planned.now)
+    ensures gathers { Gathers T.disk C.contents (λ tree. AreStagedPuts (I.listed carried.now tree) (C.contents.answers far.old) tree planned.now)
+        (λ tree. IsFirstUnfound (I.listed carried.now tree) (C.contents.answers far.old) tree planned.now)
         root.old root.new far.old far.new result }
-    ensures have { IfOk result (HavePuts planned.now) }
+    ensures have { IfOk result (HaveWants (I.gives carried.now) planned.now) }
     ensures stops { IfErr result IsMissingStop }
 {
     let puts = put_list(alloc, root, far, carried, planned)?;

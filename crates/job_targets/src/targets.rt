@@ -8,9 +8,11 @@ ghost use Rattle.conflict_plan.specs.Orphans.{IsSeenPlan};
 ghost use Rattle.conflict_plan.specs.Plan.{planned_cmp};
 ghost use Rattle.job_targets.specs.Gathering.{Gathers};
 ghost use Rattle.job_targets.specs.Outcome.{AreChanges, AreGiven, AreHeld, AreOver, AreSavable, AreTargets, FitPlan, IsFirstRefusal, IsTargetStop};
+ghost use Rattle.job_targets.specs.Carrying.{AreStagedTargets, FitWants, whole_of, whole_targets};
 ghost use Rattle.job_targets.specs.Targets.{IsChange};
 
 use crate::agreeing::stashable;
+use crate::carried::{Carries, InMemory};
 use crate::entries::entries_of;
 use crate::entry::Entries;
 use crate::puts::puts_of;
@@ -26,7 +28,7 @@ use std::alloc::Global;
 /// What a job is to make of its paths, and what stood there.
 #[derive(Drop)]
 pub struct Targets {
-    /// The write of each planned path. No bytes are staged.
+    /// The write of each planned path.
     pub puts: Puts,
     /// What stands at each of these paths, and the fingerprint of what is to stand.
     pub entries: Entries,
@@ -41,22 +43,22 @@ impl Copies for Targets {
     }
 }
 
-// The three tests in their order.
-fn make_targets<T: TreeDisk, C: Contents>(
+// The three tests in their order. The clauses speak of the writes that have the bytes of the staged files that they name.
+fn make_targets<T: TreeDisk, C: Contents, I: Carries>(
     alloc: Global,
     root: &mut T,
     planned: &[Planned],
-    carried: &[Carried],
+    carried: &I,
     far: &mut C,
 ) -> Result<Targets, Stop>
-    requires hash { All (λ (content : carried_content.Carried). content.name ≡ sha1 content.bytes) carried.now }
-    requires rising { IsStrictlySortedBy content_cmp carried.now }
+    requires sound { I.sound carried.now }
+    requires stand { IsTrue T.disk.tells → I.stand carried.now (T.disk.reads root.old) }
     requires seen { IsTrue T.disk.tells → All (IsSeenPlan (T.disk.reads root.old)) planned.now }
     requires in_order { IsStrictlySortedBy planned_cmp planned.now }
-    ensures gathers { Gathers T.disk C.contents (AreTargets carried.now (C.contents.answers far.old) planned.now)
-        (IsFirstRefusal carried.now (C.contents.answers far.old) planned.now)
+    ensures gathers { Gathers T.disk C.contents (λ tree. AreStagedTargets (I.listed carried.now tree) (C.contents.answers far.old) planned.now tree)
+        (λ tree. IsFirstRefusal (I.listed carried.now tree) (C.contents.answers far.old) planned.now tree)
         root.old root.new far.old far.new result }
-    ensures fits { IfOk result (FitPlan planned.now) }
+    ensures fits { IfOk result (FitWants (I.gives carried.now) planned.now) }
     ensures held { IfOk result (λ made. AreHeld made.puts) }
     ensures stops { IfErr result IsTargetStop }
 {
@@ -102,6 +104,36 @@ pub fn targets_of<T: TreeDisk, C: Contents>(
     // On every disk, also where it tells nothing.
     ensures fits { IfOk result (FitPlan planned.now) }
     ensures puts { IfOk result (λ made. AreGiven made.puts) }
+    ensures entries { IfOk result (λ made. AreSavable made.entries) }
+    ensures stops { IfErr result IsTargetStop }
+{
+    let contents = InMemory { contents: carried };
+    make_targets(alloc, root, planned, &contents, far)
+}
+
+/// The same with contents that are carried in memory or in files of the journal's directory: a write may name such a file. The clauses
+/// speak of the writes that have its bytes.
+pub fn targets_by<T: TreeDisk, C: Contents, I: Carries>(
+    alloc: Global,
+    root: &mut T,
+    planned: &[Planned],
+    carried: &I,
+    far: &mut C,
+) -> Result<Targets, Stop>
+    requires sound { I.sound carried.now }
+    requires stand { IsTrue T.disk.tells → I.stand carried.now (T.disk.reads root.old) }
+    requires seen { IsTrue T.disk.tells → All (IsSeenPlan (T.disk.reads root.old)) planned.now }
+    requires in_order { IsStrictlySortedBy planned_cmp planned.now }
+    ensures gathers { Gathers T.disk C.contents (λ tree. AreStagedTargets (I.listed carried.now tree) (C.contents.answers far.old) planned.now tree)
+        (λ tree. IsFirstRefusal (I.listed carried.now tree) (C.contents.answers far.old) planned.now tree)
+        root.old root.new far.old far.new result }
+    ensures over { IsTrue T.disk.tells → IfOk result (λ made. AreOver (T.disk.reads root.old) (whole_targets (T.disk.reads root.old) made)) }
+    ensures changes { IsTrue T.disk.tells → All IsChange planned.now
+        → IfOk result (λ made. AreChanges (T.disk.reads root.old) (whole_of (T.disk.reads root.old) made.puts)) }
+    ensures whole { IsTrue T.disk.tells → IfOk result (λ made. FitPlan planned.now (whole_targets (T.disk.reads root.old) made)) }
+    ensures puts { IsTrue T.disk.tells → IfOk result (λ made. AreGiven (whole_of (T.disk.reads root.old) made.puts)) }
+    // On every disk, also where it tells nothing.
+    ensures fits { IfOk result (FitWants (I.gives carried.now) planned.now) }
     ensures entries { IfOk result (λ made. AreSavable made.entries) }
     ensures stops { IfErr result IsTargetStop }
 {

@@ -1,5 +1,6 @@
 pub mod FixedPaths
 pub mod Written
+mod StagedWrites
 pub mod Loaded
 pub mod MadeReady
 pub mod Migration

@@ -1,7 +1,7 @@
 -- The writes and entries of a plan, as a job asks them on every disk.
-use Rattle.std.proofs.Common.{◌≡◌, ◌≢◌, true, List, [], ◌∷◌, map, Option, Some, None, refl, sym, ◌∙◌, ap, subst}
+use Rattle.std.proofs.Common.{◌≡◌, ◌≢◌, true, false, List, [], ◌∷◌, map, Option, Some, None, refl, sym, ◌∙◌, ap, subst}
 use Rattle.std.proofs.lemmas.List.Elements.{All-from_recursion, recursion_from_All, All-contains}
-use Rattle.std.specs.List.{All, AllByRecursion}
+use Rattle.std.specs.List.{All, AllByRecursion, AllZip}
 use Rattle.std.specs.FinMap.{get}
 use Rattle.rollback_stack.specs.cny-base.declared.node.Node.{Node}
 use Rattle.rollback_stack.specs.cny-base.declared.refusal.Refusal.{Refusal}
@@ -18,28 +18,52 @@ use Rattle.local_db.specs.Steps.{paths_of, want_of}
 use Rattle.conflict_plan.specs.declared.planned.Planned.{Planned}
 use Rattle.conflict_plan.specs.Plan.{ArePlannable, IsPlannable}
 use Rattle.job_targets.specs.Targets.{HaveEntries, HavePuts}
-use Rattle.job_targets.specs.Outcome.{AreGiven, AreSavable, FitPlan}
-use Rattle.job_targets.specs.declared.targets.Targets.{Targets}
+use Rattle.job_targets.specs.Carrying.{HaveWants, whole_of}
+use Rattle.job_targets.specs.Old.{is_staged}
+use Rattle.job_targets.specs.Outcome.{AreSavable}
+use Rattle.rollback_stack.specs.journal-log.declared.put.Want.{Want}
 use Rattle.rollback_stack.specs.Entries.{entries_of}
 use Rattle.system_core.specs.JobWriting.{entries_over, AreRecordedTargets, StandsBeforeOrAfter}
 use Rattle.system_core.specs.Something.{is_something, is_some_by, LacksSomething}
 use Rattle.system_core.specs.Lists.{AllPathsAllowed}
 use Rattle.system_core.proofs.Recorded.{plannable_free}
 
-pub paths_same : (xs : List Planned) (ps : List Put) (es : List Entry) → HavePuts xs ps → HaveEntries xs es → map (λ (e : Entry). e.path) es ≡ paths_of ps
+-- the writes are at the planned paths
+abbrev pub HavePaths : List Planned → List Put → Type 0
+HavePaths = AllZip (λ (x : Planned) (p : Put). p.path ≡ x.path)
+
+pub paths_of_puts : (xs : List Planned) (ps : List Put) → HavePuts xs ps → HavePaths xs ps
+paths_of_puts [] [] puts = tt
+paths_of_puts [] (p ∷ ps) puts = absurd puts
+paths_of_puts (x ∷ xs) [] puts = absurd puts
+paths_of_puts (x ∷ xs) (p ∷ ps) puts = (puts.0.path, paths_of_puts xs ps puts.1)
+
+pub paths_of_wants : (Gives : Want → Type 0) (xs : List Planned) (ps : List Put) → HaveWants Gives xs ps → HavePaths xs ps
+paths_of_wants Gives [] [] puts = tt
+paths_of_wants Gives [] (p ∷ ps) puts = absurd puts
+paths_of_wants Gives (x ∷ xs) [] puts = absurd puts
+paths_of_wants Gives (x ∷ xs) (p ∷ ps) puts = (puts.0.path, paths_of_wants Gives xs ps puts.1)
+
+pub paths_whole : (tree : Tree) (xs : List Planned) (ps : List Put) → HavePaths xs ps → HavePaths xs (whole_of tree ps)
+paths_whole tree [] [] puts = tt
+paths_whole tree [] (p ∷ ps) puts = absurd puts
+paths_whole tree (x ∷ xs) [] puts = absurd puts
+paths_whole tree (x ∷ xs) (p ∷ ps) puts = (puts.0, paths_whole tree xs ps puts.1)
+
+pub paths_same : (xs : List Planned) (ps : List Put) (es : List Entry) → HavePaths xs ps → HaveEntries xs es → map (λ (e : Entry). e.path) es ≡ paths_of ps
 paths_same [] [] [] puts entries = refl
 paths_same [] [] (e ∷ es) puts entries = absurd entries
 paths_same [] (p ∷ ps) es puts entries = absurd puts
 paths_same (x ∷ xs) [] es puts entries = absurd puts
 paths_same (x ∷ xs) (p ∷ ps) [] puts entries = absurd entries
 paths_same (x ∷ xs) (p ∷ ps) (e ∷ es) puts entries =
-    ap (λ n. n ∷ map (λ (d : Entry). d.path) es) (entries.0.path ∙ sym puts.0.path) ∙ ap (λ l. p.path ∷ l) (paths_same xs ps es puts.1 entries.1)
+    ap (λ n. n ∷ map (λ (d : Entry). d.path) es) (entries.0.path ∙ sym puts.0) ∙ ap (λ l. p.path ∷ l) (paths_same xs ps es puts.1 entries.1)
 
-free_by : (xs : List Planned) (ps : List Put) → HavePuts xs ps → AllByRecursion (λ (x : Planned). IsFree x.path) xs → AllByRecursion (λ (p : Put). IsFree p.path) ps
+free_by : (xs : List Planned) (ps : List Put) → HavePaths xs ps → AllByRecursion (λ (x : Planned). IsFree x.path) xs → AllByRecursion (λ (p : Put). IsFree p.path) ps
 free_by [] [] puts all = tt
 free_by [] (p ∷ ps) puts all = absurd puts
 free_by (x ∷ xs) [] puts all = absurd puts
-free_by (x ∷ xs) (p ∷ ps) puts all = (subst IsFree (sym puts.0.path) all.0, free_by xs ps puts.1 all.1)
+free_by (x ∷ xs) (p ∷ ps) puts all = (subst IsFree (sym puts.0) all.0, free_by xs ps puts.1 all.1)
 
 planned_free : (old fresh : List TroveParts) (xs : List Planned) → All IsTrove old → All IsTrove fresh → AllPathsAllowed old → AllPathsAllowed fresh
     → AllByRecursion (IsPlannable old fresh) xs → AllByRecursion (λ (x : Planned). IsFree x.path) xs
@@ -48,18 +72,18 @@ planned_free old fresh (x ∷ xs) olds freshes a b all = (plannable_free old fre
 
 -- the paths of the writes are free
 pub puts_free : (old fresh : List TroveParts) (xs : List Planned) (ps : List Put) → All IsTrove old → All IsTrove fresh → AllPathsAllowed old → AllPathsAllowed fresh
-    → ArePlannable old fresh xs → HavePuts xs ps → All (λ (p : Put). IsFree p.path) ps
+    → ArePlannable old fresh xs → HavePaths xs ps → All (λ (p : Put). IsFree p.path) ps
 puts_free old fresh xs ps olds freshes a b plannable puts =
     All-from_recursion (λ (p : Put). IsFree p.path) ps
     (free_by xs ps puts (planned_free old fresh xs olds freshes a b (recursion_from_All (IsPlannable old fresh) xs plannable.each)))
 
 -- what a job asks of them on every disk
-pub are_targets : (old fresh : List TroveParts) (xs : List Planned) (t : Targets) → All IsTrove old → All IsTrove fresh → AllPathsAllowed old → AllPathsAllowed fresh
-    → ArePlannable old fresh xs → FitPlan xs t → AreGiven t.puts → AreSavable t.entries → All StandsBeforeOrAfter (entries_of t.entries) → AreRecordedTargets t.puts t.entries
-are_targets old fresh xs t olds freshes a b plannable fits given savable something = record {
-  free = puts_free old fresh xs t.puts olds freshes a b plannable fits.puts;
-  given = given.given;
-  paths = paths_same xs t.puts t.entries fits.puts fits.entries;
+pub are_targets : (old fresh : List TroveParts) (xs : List Planned) (ps : List Put) (es : List Entry) → All IsTrove old → All IsTrove fresh → AllPathsAllowed old → AllPathsAllowed fresh
+    → ArePlannable old fresh xs → HavePaths xs ps → HaveEntries xs es → All (λ (p : Put). is_staged p.want ≡ false) ps → AreSavable es → All StandsBeforeOrAfter (entries_of es) → AreRecordedTargets ps es
+are_targets old fresh xs ps es olds freshes a b plannable puts entries given savable something = record {
+  free = puts_free old fresh xs ps olds freshes a b plannable puts;
+  given = given;
+  paths = paths_same xs ps es puts entries;
   entries = record { given = savable.given; entries_are = savable.told; rising = savable.rising };
   something = something;
   agree = savable.agree;

@@ -41,20 +41,20 @@ use Rattle.tree_journal.proofs.tree-disk.Children.{some_dir as stands_dir}
 
 -- ---- no bytes are staged
 
-want_kept : (base : Name) (x : Tree) (w : Want) → is_staged w ≡ false → resolved base x w ≡ w
+pub want_kept : (base : Name) (x : Tree) (w : Want) → is_staged w ≡ false → resolved base x w ≡ w
 want_kept base x want.Nothing given = refl
 want_kept base x (want.Dir mode) given = refl
 want_kept base x (want.File mode bytes) given = refl
 want_kept base x (want.Link target) given = refl
 want_kept base x (want.Staged mode number size name) given = absurd (cc given)
 
-puts_kept : (base : Name) (x : Tree) (puts : List Put) → All (λ (p : Put). is_staged p.want ≡ false) puts → map (resolve base x) puts ≡ puts
+pub puts_kept : (base : Name) (x : Tree) (puts : List Put) → All (λ (p : Put). is_staged p.want ≡ false) puts → map (resolve base x) puts ≡ puts
 puts_kept base x [] given = refl
 puts_kept base x (p ∷ puts) given =
     ap (λ (w : Want). record { path = p.path; want = w } ∷ map (resolve base x) puts) (want_kept base x p.want (All-head (λ (p : Put). is_staged p.want ≡ false) p puts given))
     ∙ ap (λ (l : List Put). p ∷ l) (puts_kept base x puts (All-tail (λ (p : Put). is_staged p.want ≡ false) p puts given))
 
-has_want : (base : Name) (x : Tree) (w : Want) → is_staged w ≡ false → has_content base x w ≡ true
+pub has_want : (base : Name) (x : Tree) (w : Want) → is_staged w ≡ false → has_content base x w ≡ true
 has_want base x want.Nothing given = refl
 has_want base x (want.Dir mode) given = refl
 has_want base x (want.File mode bytes) given = refl

@@ -12,6 +12,7 @@ use Rattle.conflict_plan.specs.declared.planned.Planned.{Planned}
 use Rattle.conflict_plan.specs.Plan as planning
 use Rattle.dep_closure.specs.Closed.{IsClosed, IsUnmetOrMemory}
 use Rattle.job_targets.specs.declared.targets.Targets.{Targets}
+use Rattle.job_targets.specs.Carrying.{whole_targets}
 use Rattle.job_targets.specs.Outcome as outcome
 use Rattle.system_core.specs.Last.{IsRefusedLast}
 use Rattle.local_db.specs.declared.db.Db.{Db}
@@ -38,6 +39,10 @@ pub record IsTested (from : Sources) (before list : List TroveParts) (tree : Tre
   pub planned : List Planned
   pub plan : planning.IsPlan before list from.options tree planned
   pub targets : outcome.AreTargets from.carried from.answers planned tree made
+
+-- the same of targets that may name staged files: of those that they mean
+abbrev pub IsTestedWhole : Sources → List TroveParts → List TroveParts → Tree → Targets → Type 0
+IsTestedWhole from before list tree made = IsTested from before list tree (whole_targets tree made)
 
 -- The first of these tests that fails: the list isn't closed; there is no plan; or there are no writes of the plan.
 pub data IsTestRefusal (from : Sources) (before list : List TroveParts) (tree : Tree) (why : Refusal) : Type 0 where

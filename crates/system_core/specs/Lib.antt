@@ -10,6 +10,7 @@ pub mod Answers
 pub mod Changing
 pub mod Job
 pub mod Lists
+pub mod StagedWrites
 pub mod Something
 pub mod Steps
 pub mod Tests

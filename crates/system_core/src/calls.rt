@@ -6,6 +6,10 @@ ghost use Rattle.rollback_stack.specs.cny-base.Count.{Rose};
 ghost use Rattle.rollback_stack.specs.change-set.declared.change.Carried as carried_content;
 ghost use Rattle.rollback_stack.specs.change-set.ChangeSet.{content_cmp};
 ghost use Rattle.rollback_stack.specs.content-store.Contents.{KeepsContents};
+ghost use Rattle.job_targets.specs.change-pull.Incoming.{StandNumbered};
+ghost use Rattle.job_targets.specs.CarryingLaws.{listed_in};
+ghost use Rattle.rollback_stack.specs.cny-base.Reserved.{private_directory};
+ghost use Rattle.rollback_stack.specs.journal-log.Own.{staged};
 ghost use Rattle.local_db.specs.declared.format.Format.TheVariants.{Two};
 ghost use Rattle.local_db.specs.SystemState.{SystemState};
 ghost use Rattle.local_db.specs.Stores.{IsDatabase, StoresIn};
@@ -18,6 +22,8 @@ ghost use Rattle.system_core.specs.Steps.{StepEnds, HasStepCause, HasOwnCause, I
 
 use crate::done::Done;
 use crate::running::job;
+use job_targets::InMemory;
+use job_targets::change_pull::StagedList;
 use local_db::{Db, distinct_databases};
 use rollback_stack::change_set::Carried;
 use rollback_stack::cny_base::{Name, Options, Stop};
@@ -74,7 +80,48 @@ pub fn update<T: TreeDisk, C: Contents>(
     // A tree holds one database.
     distinct_databases();
     let list = updated(alloc, &db.installed, come)?;
-    let done = job(alloc, root, db, list, carried, far, options)?;
+    let contents = InMemory { contents: carried };
+    let done = job(alloc, root, db, list, &contents, far, options)?;
+    Ok(done)
+}
+
+/// Installs these troves as `update` does, with contents that were staged in the journal's directory in place of carried ones. None of
+/// them is read: what is written names them.
+///
+/// The conditions are those of `update`, of the contents that the staged files have; and where the root tells its tree, the file of the
+/// K-th one, from 0, stands there under the number K, with the size that is told. What is left of them there counts for nothing.
+/// `stage` and a pull on its path count among the calls that wrote since.
+pub fn update_staged<T: TreeDisk, C: Contents>(
+    alloc: Global,
+    root: &mut T,
+    db: &mut Db,
+    come: &[Trove],
+    contents: &StagedList,
+    far: &mut C,
+    options: &Options,
+) -> Result<Done, Stop>
+    requires db { IsDatabase Two db.old.installed db.old.oldest db.old.newest }
+    requires allowed { AllPathsAllowed come.now }
+    requires staged { IsTrue T.disk.tells → StandNumbered (staged private_directory) contents.now (T.disk.reads root.old) }
+    requires ready { IsTrue T.disk.tells → MayBeginJob T.disk db.old root.old }
+    // By each system that the root stores.
+    ensures ends { IsTrue T.disk.tells → (s : SystemState) → StoresIn Two (T.disk.reads root.old) s
+        → StepEnds T.disk (sources_of (listed_in (T.disk.reads root.old) contents.now) (C.contents.answers far.old) options.now) (to_updated s.installed come.now) s root.old root.new db.new result }
+    ensures again { IsTrue T.disk.tells → OnOk result (MayBeginJob T.disk db.new root.new) }
+    ensures fixed { IsTrue T.disk.tells → OnOk result (fixed_dirs (T.disk.reads root.new) ≡ fixed_dirs (T.disk.reads root.old)) }
+    ensures moments { IsTrue T.disk.tells → StepMoves T.disk (sources_of (listed_in (T.disk.reads root.old) contents.now) (C.contents.answers far.old) options.now) (to_updated db.old.installed come.now) db.old root.old root.new }
+    // On every disk, also where it tells nothing.
+    ensures answers { AnswersCall T.disk (sources_of (listed_in (T.disk.reads root.old) contents.now) (C.contents.answers far.old) options.now) (to_updated db.old.installed come.now) db.old root.old root.new db.new result }
+    ensures rules { IsDatabase Two db.new.installed db.new.oldest db.new.newest }
+    ensures kept { OnErr result (db.new ≡ db.old) }
+    ensures causes { IfErr result (HasStepCause C.contents far.old far.new (Rose (T.disk.faults root.old) (T.disk.faults root.new))) }
+    ensures searches { KeepsContents C.contents far.old far.new }
+    ensures later { T.disk.faults root.old ≤ T.disk.faults root.new }
+{
+    // A tree holds one database.
+    distinct_databases();
+    let list = updated(alloc, &db.installed, come)?;
+    let done = job(alloc, root, db, list, contents, far, options)?;
     Ok(done)
 }
 
@@ -111,7 +158,8 @@ pub fn erase<T: TreeDisk>(
     distinct_databases();
     let list = erased(alloc, &db.installed, names)?;
     let mut far = NoContents;
-    let done = job(alloc, root, db, list, &[], &mut far, options)?;
+    let contents = InMemory { contents: &[] };
+    let done = job(alloc, root, db, list, &contents, &mut far, options)?;
     Ok(done)
 }
 
@@ -145,6 +193,7 @@ pub fn adopt<T: TreeDisk, C: Contents>(
     ensures searches { KeepsContents C.contents far.old far.new }
     ensures later { T.disk.faults root.old ≤ T.disk.faults root.new }
 {
-    let done = job(alloc, root, db, list, &[], far, options)?;
+    let contents = InMemory { contents: &[] };
+    let done = job(alloc, root, db, list, &contents, far, options)?;
     Ok(done)
 }

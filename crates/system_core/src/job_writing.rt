@@ -1,5 +1,5 @@
 //! A job, written.
-ghost use Rattle.std.specs.Prelude.{◌≡◌, ◌↔◌, ◌⊎◌, ◌≤◌, [], false, All, IfErr, IfNone, IfOk, IfSome, IsTrue, OnOk};
+ghost use Rattle.std.specs.Prelude.{◌≡◌, ◌↔◌, ◌⊎◌, ◌≤◌, [], false, All, IfErr, IfNone, IfOk, IfSome, IsTrue, List, OnOk};
 ghost use Rattle.rollback_stack.specs.cny-base.Count.{Rose};
 ghost use Rattle.rollback_stack.specs.journal-log.declared.put.Put as declared;
 ghost use Rattle.update_job.specs.Changes.{AreChanges};
@@ -9,7 +9,7 @@ ghost use Rattle.local_db.specs.declared.format.Format.TheVariants.{Two};
 ghost use Rattle.local_db.specs.Formats.{database_bytes};
 ghost use Rattle.local_db.specs.Installed.{IsInstalled};
 ghost use Rattle.local_db.specs.SystemState.{IsFree, SystemState};
-ghost use Rattle.local_db.specs.Steps.{after_job};
+ghost use Rattle.local_db.specs.Steps.{after_job, paths_of};
 ghost use Rattle.local_db.specs.Stores.{IsDatabase, StoresIn};
 ghost use Rattle.rollback_stack.specs.job-record.Changed.{AreChangedNames};
 ghost use Rattle.rollback_stack.specs.Entries.{AreEntries};
@@ -18,13 +18,14 @@ ghost use Rattle.rollback_stack.specs.change-set.Contents.{IfRefused};
 ghost use Rattle.system_core.specs.FixedDirs.{fixed_dirs};
 ghost use Rattle.system_core.specs.RootReady.{MayBeginJob};
 ghost use Rattle.system_core.specs.RootWriting.{TakesRoot};
+ghost use Rattle.system_core.specs.StagedWrites.{Means};
 ghost use Rattle.system_core.specs.Last as spec;
 ghost use Rattle.system_core.specs.Last.{ChangesNeither, IsRefusedLast, PassesLast};
 ghost use Rattle.system_core.specs.JobWriting.{AnswersJob, AreRecordedTargets, CanPutJob, CanWriteJob, HasTargets, IsJobFrom, IsJobMade, IsJobStop, JobEnds, MovesHeld, MovesTrees};
 
 use crate::last::{database_of, db_after};
 use crate::names::changed_names;
-use crate::root_writing::write_all;
+use crate::root_writing::write_whole;
 use crate::union::all_writes;
 use job_targets::{Entries, Entry};
 use local_db::{Db, distinct_databases};
@@ -63,13 +64,15 @@ fn job_of(
     changes: &[Change],
     puts: &Puts,
 ) -> Result<Option<Job>, Fault>
+    ghost whole: { List declared.Put }
+    requires same { paths_of whole ≡ paths_of puts.now }
     requires db { IsDatabase Two db.now.installed db.now.oldest db.now.newest }
     requires list { IsInstalled list }
     requires changes { AreChanges db.now.installed list changes.now }
     ensures some { IfOk result (λ found. IfSome found (λ job. IsJobMade db.now list job.names.items job.db job.bytes)) }
-    ensures passes { IfOk result (λ found. IfSome found (λ job. PassesLast db.now list puts.now)) }
-    ensures none { IfOk result (λ found. IfNone found (ChangesNeither db.now list puts.now)) }
-    ensures refused { IfErr result (IfRefused (IsRefusedLast db.now list puts.now)) }
+    ensures passes { IfOk result (λ found. IfSome found (λ job. PassesLast db.now list whole)) }
+    ensures none { IfOk result (λ found. IfNone found (ChangesNeither db.now list whole)) }
+    ensures refused { IfErr result (IfRefused (IsRefusedLast db.now list whole)) }
 {
     // Troves that are equal by their texts are one trove.
     distinct_troves();
@@ -87,7 +90,7 @@ fn job_of(
 }
 
 // Puts a job on the root: saves what its targets replace, and then puts them, its record and the database at once. It leads from the
-// list before it to that of the database.
+// list before it to that of the database. The clauses speak of the targets with the bytes of the staged files that they name.
 fn put_job<T: TreeDisk>(
     alloc: Global,
     root: &mut T,
@@ -98,22 +101,23 @@ fn put_job<T: TreeDisk>(
     bytes: Bytes,
     targets: Puts,
 ) -> Result<(), Stop>
+    ghost whole: { List declared.Put }
     requires db { IsDatabase Two db.now.installed db.now.oldest db.now.newest }
     requires job { 1 ≤ db.now.newest }
     requires names { AreChangedNames before.now db.now.installed names.now }
     requires entries { AreEntries entries.now }
     requires agree { AllAgree entries.now }
     requires free { All (λ (p : declared.Put). IsFree p.path) targets }
-    requires given { All (λ (p : declared.Put). is_staged p.want ≡ false) targets }
+    requires means { IsTrue T.disk.tells → Means (T.disk.reads root.old) targets whole }
     requires text { bytes ≡ database_bytes Two db.now.installed db.now.oldest db.now.newest }
-    requires told { IsTrue T.disk.tells → CanPutJob T.disk targets entries.now root.old }
-    ensures goes { IsTrue T.disk.tells → (s : SystemState) → StoresIn Two (T.disk.reads root.old) s → IsJobFrom s targets before.now db.now
-        → TakesRoot T.disk Two s (after_job targets db.now.installed s) targets root.old root.new result }
+    requires told { IsTrue T.disk.tells → CanPutJob T.disk whole entries.now root.old }
+    ensures goes { IsTrue T.disk.tells → (s : SystemState) → StoresIn Two (T.disk.reads root.old) s → IsJobFrom s whole before.now db.now
+        → TakesRoot T.disk Two s (after_job whole db.now.installed s) whole root.old root.new result }
     // Also on a root that stores no system.
     ensures again { IsTrue T.disk.tells → OnOk result (MayBeginJob T.disk db.now root.new) }
     ensures fixed { IsTrue T.disk.tells → OnOk result (fixed_dirs (T.disk.reads root.new) ≡ fixed_dirs (T.disk.reads root.old)) }
-    ensures outer { IsTrue T.disk.tells → OnOk result (HasTargets T.disk targets root.old root.new) }
-    ensures moments { IsTrue T.disk.tells → MovesHeld T.disk targets db.now root.old root.new }
+    ensures outer { IsTrue T.disk.tells → OnOk result (HasTargets T.disk whole root.old root.new) }
+    ensures moments { IsTrue T.disk.tells → MovesHeld T.disk whole db.now root.old root.new }
     ensures stops { IfErr result (IsPushStop T.disk.tells (Rose (T.disk.faults root.old) (T.disk.faults root.new))) }
     ensures later { T.disk.faults root.old ≤ T.disk.faults root.new }
 {
@@ -122,7 +126,7 @@ fn put_job<T: TreeDisk>(
     let pushed = push_puts(alloc, root, before, names, entries, db)?;
     let all = all_writes(alloc, targets, pushed, bytes)?;
     put_ranges(all.get());
-    write_all(alloc, root, &all)
+    write_whole(alloc, root, &all)
 }
 
 /// Writes a job with these targets, this list after it, to which these changes lead, and these entries of its record, once the tests of
@@ -165,6 +169,40 @@ pub fn write_job<T: TreeDisk>(
     ensures stops { IfErr result (IsJobStop T.disk.tells (Rose (T.disk.faults root.old) (T.disk.faults root.new)) db.old list puts) }
     // Whatever is answered, no call of the root is made before the last tests have passed.
     ensures tested { (root.new ≡ root.old) ⊎ PassesLast db.old list puts }
+    ensures later { T.disk.faults root.old ≤ T.disk.faults root.new }
+{
+    write_targets(alloc, root, db, list, changes, puts, entries)
+}
+
+/// The same where targets may name staged files: the clauses speak of the targets that have their bytes.
+pub(crate) fn write_targets<T: TreeDisk>(
+    alloc: Global,
+    root: &mut T,
+    db: &mut Db,
+    list: Installed,
+    changes: &[Change],
+    puts: Puts,
+    entries: Entries,
+) -> Result<Option<u32>, Stop>
+    ghost whole: { List declared.Put }
+    requires same { paths_of whole ≡ paths_of puts }
+    requires free { All (λ (p : declared.Put). IsFree p.path) puts }
+    requires means { IsTrue T.disk.tells → Means (T.disk.reads root.old) puts whole }
+    requires db { IsDatabase Two db.old.installed db.old.oldest db.old.newest }
+    requires list { IsInstalled list }
+    requires changes { AreChanges db.old.installed list changes.now }
+    requires targets { AreRecordedTargets whole entries }
+    requires told { IsTrue T.disk.tells → CanWriteJob T.disk db.old whole entries root.old }
+    ensures ends { IsTrue T.disk.tells → (s : SystemState) → StoresIn Two (T.disk.reads root.old) s
+        → JobEnds T.disk whole list s root.old root.new result }
+    ensures again { IsTrue T.disk.tells → OnOk result (MayBeginJob T.disk db.new root.new) }
+    ensures fixed { IsTrue T.disk.tells → OnOk result (fixed_dirs (T.disk.reads root.new) ≡ fixed_dirs (T.disk.reads root.old)) }
+    ensures outer { IsTrue T.disk.tells → OnOk result (HasTargets T.disk whole root.old root.new) }
+    ensures moments { IsTrue T.disk.tells → MovesTrees T.disk whole db.old (spec.db_after db.old list) root.old root.new }
+    ensures answers { AnswersJob db.old list whole db.new result }
+    ensures rules { IsDatabase Two db.new.installed db.new.oldest db.new.newest }
+    ensures stops { IfErr result (IsJobStop T.disk.tells (Rose (T.disk.faults root.old) (T.disk.faults root.new)) db.old list whole) }
+    ensures tested { (root.new ≡ root.old) ⊎ PassesLast db.old list whole }
     ensures later { T.disk.faults root.old ≤ T.disk.faults root.new }
 {
     // No tree holds two databases.

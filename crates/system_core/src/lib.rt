@@ -27,7 +27,7 @@ mod something;
 mod testing;
 mod union;
 
-pub use calls::{adopt, erase, update};
+pub use calls::{adopt, erase, update, update_staged};
 pub use done::Done;
 pub use fixed_dirs::check_fixed_dirs;
 pub use job_writing::write_job;

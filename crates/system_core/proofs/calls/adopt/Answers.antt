@@ -6,6 +6,7 @@ use Rattle.system_core.specs.Steps.{StepEnds}
 use Rattle.system_core.proofs.AnswerLaws.{answer_stop}
 use Rattle.system_core.proofs.JobLaws.{cause_of}
 use Rattle.system_core.proofs.EndingAll.{err_is}
+use Rattle.std.proofs.lemmas.List.Elements.{All-nil}
 use Rattle.update_job.proofs.change-set.Carrying.{no_carried}
 use Rattle.system_core.proofs.calls.adopt.Goals as goal
 
@@ -16,8 +17,8 @@ returns-in_err-done-clause-ends g c tells s stores =
 pub returns-in_err-done-clause-causes : goal.returns-in_err-done-clause-causes
 returns-in_err-done-clause-causes g c = cause_of g.C.Contents.contents c.args.far.now c.job.new.far (Rose (g.T.TreeDisk.disk.faults c.args.root.now) (g.T.TreeDisk.disk.faults c.job.new.root)) c.in_err-done.field-0.0 c.from_residual.result c.from_residual.ensures.1 c.in_err-done.ensures.causes
 
-pub job-requires-clause-rising : goal.job-requires-clause-rising
-job-requires-clause-rising g c = no_carried
+pub job-requires-clause-sound : goal.job-requires-clause-sound
+job-requires-clause-sound g c = record { hash = All-nil _; rising = no_carried }
 
 pub returns-in_err-done-clause-answers : goal.returns-in_err-done-clause-answers
 returns-in_err-done-clause-answers g c =

@@ -11,6 +11,7 @@ use Rattle.system_core.proofs.CallLaws.{ends_by, ends_stop, erased_allowed, list
 use Rattle.system_core.proofs.ErasedRefusals.{erasure_stops}
 use Rattle.system_core.proofs.Held.{same_list}
 use Rattle.system_core.proofs.TreesMoved.{moves_by, nothing_read}
+use Rattle.std.proofs.lemmas.List.Elements.{All-nil}
 use Rattle.update_job.proofs.change-set.Carrying.{no_carried}
 use Rattle.system_core.proofs.calls.erase.Goals as goal
 
@@ -62,8 +63,8 @@ returns-clause-ends g c tells s stores =
     let leads = subst (λ (l : List TroveParts). AreInstalled l c.args.names.now × IsErased l c.args.names.now c.in_ok-list.list) (same_list c.distinct_databases.ensures.unique (g.T.TreeDisk.disk.reads c.args.root.now) c.args.db.now s ready.holds stores) (c.in_ok-list.ensures.all, c.in_ok-list.ensures.value) in
     ends_by g.T.TreeDisk.disk _ (to_erased s.installed c.args.names.now) s c.args.root.now c.job.new.root c.job.new.db c.in_ok-list.list leads (Ok c.in_ok-done.done) (c.in_ok-done.ensures.ends tells s stores)
 
-pub job-requires-clause-rising : goal.job-requires-clause-rising
-job-requires-clause-rising g c = no_carried
+pub job-requires-clause-sound : goal.job-requires-clause-sound
+job-requires-clause-sound g c = record { hash = All-nil _; rising = no_carried }
 
 pub returns-in_err-list-clause-answers : goal.returns-in_err-list-clause-answers
 returns-in_err-list-clause-answers g c =

@@ -24,6 +24,9 @@ returns-in_err-list-clause-causes g c = cause_of g.C.Contents.contents c.args.fa
 pub returns-in_err-list-clause-searches : goal.returns-in_err-list-clause-searches
 returns-in_err-list-clause-searches g c = keeps_start g.met.C.Contents.laws c.args.far.now
 
+pub job-requires-clause-sound : goal.job-requires-clause-sound
+job-requires-clause-sound g c = record { hash = c.requires.hash; rising = c.requires.rising }
+
 pub job-requires-clause-allowed : goal.job-requires-clause-allowed
 job-requires-clause-allowed g c = updated_allowed c.args.db.now.installed c.args.come.now c.in_ok-list.list c.requires.db.installed.allowed c.requires.allowed c.in_ok-list.ensures.value
 

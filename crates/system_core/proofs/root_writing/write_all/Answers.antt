@@ -1,42 +1,11 @@
-use Rattle.system_core.proofs.Written.{all_written, may_apply, not_put, nothing_done, nothing_written, goes_on, put_on}
+use Rattle.system_core.proofs.StagedWrites.{means_itself}
 use Rattle.system_core.proofs.root_writing.write_all.Goals as goal
 
-pub apply-requires-clause-told : goal.apply-requires-clause-told
-apply-requires-clause-told g c tells = rw c.in_ok-base.ensures (may_apply g.T.TreeDisk.disk c.args.puts.now c.args.root.now (c.requires.can tells))
-
-pub returns-in_err-base-clause-put : goal.returns-in_err-base-clause-put
-returns-in_err-base-clause-put g c tells = not_put _ _ c.from_residual.result c.from_residual.ensures.1
-
-pub returns-clause-put : goal.returns-clause-put
-returns-clause-put g c tells =
-    let is = c.in_ok-base.ensures in
-    put_on g.T.TreeDisk.disk c.args.puts.now c.args.root.now (c.requires.can tells) c.apply.new.disk c.apply.result (rw is at (c.apply.ensures.applied tells))
-
-pub returns-in_err-base-clause-goes : goal.returns-in_err-base-clause-goes
-returns-in_err-base-clause-goes g c tells f kind s t stores settled after =
-    nothing_done g.met.T.TreeDisk.laws c.args.puts.now c.args.root.now (c.requires.can tells) f kind s t stores settled after _ c.from_residual.result c.from_residual.ensures.1
-
-pub returns-clause-goes : goal.returns-clause-goes
-returns-clause-goes g c tells f kind s t stores settled after =
-    let is = c.in_ok-base.ensures in
-    goes_on g.met.T.TreeDisk.laws c.args.puts.now c.args.root.now (c.requires.can tells) f kind s t stores settled after c.apply.new.disk
-    (rw is at (c.apply.ensures.any_moment tells))
-    (rw is at (c.apply.ensures.confined tells))
-    (rw is at (c.apply.ensures.visible tells))
-    c.apply.result
-    (rw is at (c.apply.ensures.applied tells))
-    (rw is at (c.apply.ensures.stopped tells))
-
-pub returns-in_err-base-clause-writes : goal.returns-in_err-base-clause-writes
-returns-in_err-base-clause-writes g c tells = nothing_written g.met.T.TreeDisk.laws c.args.puts.now c.args.root.now (c.requires.can tells)
-
-pub returns-clause-writes : goal.returns-clause-writes
-returns-clause-writes g c tells =
-    let is = c.in_ok-base.ensures in
-    all_written g.met.T.TreeDisk.laws c.args.puts.now c.args.root.now (c.requires.can tells) c.apply.new.disk
-    (rw is at (c.apply.ensures.any_moment tells))
-    (rw is at (c.apply.ensures.confined tells))
-    (rw is at (c.apply.ensures.visible tells))
-    c.apply.result
-    (rw is at (c.apply.ensures.applied tells))
-    (rw is at (c.apply.ensures.stopped tells))
+pub write_whole-requires : goal.write_whole-requires
+write_whole-requires g c = λ κs lives. (
+  lives,
+  (
+    c.requires.can,
+    (λ tells. let can = c.requires.can tells in means_itself (g.T.TreeDisk.disk.reads c.args.root.now) c.args.puts.now can.given),
+  ),
+)

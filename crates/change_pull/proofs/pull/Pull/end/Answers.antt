@@ -25,4 +25,4 @@ returns-in-None-clause-exact c = λ dir given refusal is first.
 
 pub returns-in-None-clause-staged : goal.returns-in-None-clause-staged
 returns-in-None-clause-staged c = λ dir given it path other.
-    ok_two c.pulled.result (c.pulled.ensures.value dir given it) (c.pulled.ensures.few dir given it) (λ pulled is small tree holds. pulled_stand tree dir path other it.set it.written pulled is.2 is.3 small holds)
+    ok_two c.pulled.result (c.pulled.ensures.value dir given it) (c.pulled.ensures.few dir given it) (λ pulled is small tree holds. pulled_stand tree dir path other it.set it.written pulled is.2 is.3 small is.0.set_is.has_contents holds)

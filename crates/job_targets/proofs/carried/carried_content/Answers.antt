@@ -5,7 +5,7 @@ use Rattle.job_targets.specs.Contents.{carried_bytes}
 use Rattle.job_targets.proofs.Carrying.{found_place, missed_place, sized, unsized}
 use Rattle.change_set.proofs.Carrying.{against}
 use Rattle.change_set.specs.cny-base.Sized.{of_size}
-use Rattle.job_targets.proofs.content.carried_content.Goals as goal
+use Rattle.job_targets.proofs.carried.carried_content.Goals as goal
 
 pub returns-then-bytes-size : goal.returns-then-bytes-size
 returns-then-bytes-size c =
