@@ -8,8 +8,7 @@ TABLE = Rows("histories", globals(), several.TABLE.names)
 
 
 def worked_cases(script):
-    """A stranger in a directory of the first job, a newer job that is stopped before or behind its commit flag, and a rollback; then
-    the same call by itself."""
+    """A stranger in a directory of the first job, a newer job that is stopped before or behind its commit flag, and a rollback; then that alone."""
     stand = TABLE.nodes("file 0600 x /etc/other; file abc /etc/foo")
     # Behind the flag the recovery brings the job to its end, and the rollback takes that one back.
     for name, stop, statuses in (("update_stopped_before_commit_flag", 43, [0, 255, 1]), ("update_stopped_behind_commit_flag", 44, [0, 255, 0])):

@@ -1,5 +1,4 @@
-"""Lines of list_lines on what updates and erasures make of installed lists, and the answers by tools/model/lists.py, with the SHA-1 of the stream
-of each trove."""
+"""Lines of list_lines on what updates and erasures make of installed lists; tools/model/lists.py answers, with the SHA-1 of each trove's stream."""
 import sys
 
 from tools.cases.rows import Rows
@@ -56,8 +55,7 @@ CALLS = {"updated by": update, "erased": erase, "compared with": compare, "close
 
 
 def worked(kind):
-    """The calls of rows of jobs.txt. Where a row has an answer that was found by hand, it is the model's; `leaves` stands before the troves
-    of one."""
+    """The calls of rows of jobs.txt. An answer that was found by hand is the model's; `leaves` stands before the troves of one."""
     stream = bytes.fromhex(*TABLE.rows("stream"))
     for row in TABLE.rows(kind):
         given, _, wanted = row.partition(" > ")

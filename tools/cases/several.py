@@ -1,5 +1,4 @@
-"""Cases of calls of several lines: batches that end in the middle, of which an output, an input or a disk fails or stops, and the demo. Most are topics
-of several.txt."""
+"""Cases of calls of several lines: batches that end in the middle, of which an output, an input or a disk fails or stops, and the demo."""
 from tools.cases import samples
 from tools.cases.root_examples import Examples
 from tools.cases.rows import Rows, batch

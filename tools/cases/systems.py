@@ -56,8 +56,8 @@ for made, text in (row.split(" = ") for row in TABLE.rows("named troves")):
 CALLS = dict(row.split(" = ") for row in TABLE.topics["calls"])
 
 
-def call_of(text):
-    """A call that is named so, or written out: with the troves, names or number it takes, its contents, and its options."""
+def call_of(text, staged=False):
+    """A call that is named so, or written out: with the troves, names or number it takes, its contents, staged or not, and its options."""
     said, *more = CALLS.get(text, text).split(", ")
     what, *words = said.split()
     given = dict(one.partition(" ")[::2] for one in more)
@@ -73,7 +73,7 @@ def call_of(text):
     if what == "damaged":
         return damaged(call_of(" ".join(words[1:])), words[0].encode())
     if what == "update":
-        return update([TROVES[word] for word in words], contents, far, tuple(given))
+        return update([TROVES[word] for word in words], contents, far, tuple(given), staged)
     if what == "adopt":
         return adopt([TROVES[word] for word in words], far, tuple(given))
     names = [word.encode() for word in words]
@@ -86,8 +86,9 @@ def system_of(text):
     return after(SYSTEMS[named], *map(call_of, calls))
 
 
-def rows(topic):
-    yield from ((label, system_of(system), *map(call_of, calls)) for label, system, *calls in (row.split(" | ") for row in TABLE.rows(topic)))
+def rows(topic, staged=False):
+    for label, system, *calls in (row.split(" | ") for row in TABLE.rows(topic)):
+        yield label, system_of(system), *(call_of(call, staged) for call in calls)
 
 
 SYSTEMS = {"EMPTY": EMPTY}
@@ -228,9 +229,11 @@ ROWS = (
     "two contents of one SHA-1", "a mode that changes takes the bytes that stand", "nothing", "kinds that change",
     "several jobs that are taken back at once",
 )
+STAGED = ("worked", "refused jobs", "sources", "nothing", "kinds that change")
 LINES = (step_lines, half_done_lines, fixed_dirs_lines, migrated_lines, hostile_lines, chance_lines, several_lines)
 
 
 def lines():
     made = (row for some in ROWS for row in (rows(some) if isinstance(some, str) else some()))
-    return itertools.chain((run_line(*row) for row in made), *(some() for some in LINES))
+    staged = (row for topic in STAGED for row in rows(topic, True) if any(call.words.startswith("update_staged") for call in row[2:]))
+    return itertools.chain((run_line(*row) for row in (*made, *staged)), *(some() for some in LINES))

@@ -1,5 +1,4 @@
-"""Packages of the scripts over directories of the host; and those of many small files of the benches, for conary and for other programs, and how
-these are timed."""
+"""Packages of the scripts over directories of the host; and those of many small files of the benches, for conary and for others, and their times."""
 import contextlib
 import hashlib
 import os

@@ -1,6 +1,5 @@
 #!/usr/bin/env python3
-"""The calls that the program list_lines is run on, and the answers that it has to give, said by topic, by files of tools/cases/, each with a model of
-tools/model/."""
+"""The calls that the program list_lines is run on, and the answers that it has to give, said by topic by files of tools/cases/, with their models."""
 from tools.cases import catalogues, closures, completions, jobs, local_changes, plans
 from tools.lines.words import say
 

@@ -6,15 +6,16 @@ from tools.lines.words import bytes_word, placed, tree_word
 from tools.model.lists import by_name
 from tools.model.records import sha
 from tools.model.runs import JOURNAL, changes
-from tools.model.streams import Refused, trove_bytes
+from tools.model.streams import Refused, asked_by, set_bytes, trove_bytes
 from tools.model.trees import DIR, is_of, is_tree
 
 
-class Call(namedtuple("Call", "words made")):
-    """A call: its words in a line, and what it makes of a system."""
+class Call(namedtuple("Call", "words made stages", defaults=[False])):
+    """A call: its words in a line, what it makes of a system, and whether it stages contents before, in the private directory."""
 
     def on(self, system):
         """The system after the call, and its answer."""
+        system = system.with_base() if self.stages else system
         try:
             after, told = self.made(system)
         except Refused as why:
@@ -49,10 +50,15 @@ def searched(options, far):
     return ((*options, f"far-{far}"), ()) if isinstance(far, str) else (options, far)
 
 
-def update(come, carried=(), far=(), options=()):
+def update(come, carried=(), far=(), options=(), staged=False):
+    """An update. Staged contents come as those of a change set, which are the ones that the troves ask for."""
     options_far, found = searched(options, far)
-    given = f"update|{' '.join(options)}|{streams(come)}|{far_word(carried)}|{far_word(far)}"
-    return Call(given, lambda system: system.update(come, options_far, carried, found))
+    what, contents = "update", far_word(carried)
+    if staged:
+        carried = [text for text in sorted(set(carried), key=sha) if any((sha(text), len(text)) in asked_by(one) for one in come)]
+        what, contents = "update_staged", bytes_word(set_bytes(come, [(sha(text), text) for text in carried]))
+    given = f"{what}|{' '.join(options)}|{streams(come)}|{contents}|{far_word(far)}"
+    return Call(given, lambda system: system.update(come, options_far, carried, found), staged)
 
 
 def adopt(troves, far=(), options=()):

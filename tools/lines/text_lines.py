@@ -70,8 +70,7 @@ def mode(text):
 
 
 def schedule(calls, faults, more, *fails):
-    """A letter for each further call: `f` where its number is among those that are to fail. Then the counts, which stay at
-    their greatest value, 2^64 - 1."""
+    """A letter for each further call: `f` where its number is among those that are to fail. Then the counts, which stay at 2^64 - 1."""
     calls, faults, letters = int(calls), int(faults), b""
     for _ in range(int(more)):
         calls = min(calls + 1, 2**64 - 1)

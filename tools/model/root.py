@@ -40,9 +40,11 @@ class Root(namedtuple("Root", "outer own troves jobs", defaults=[PINNED, {}, [],
     def numbers(self):
         return (self.jobs[0].number, self.jobs[-1].number) if self.jobs else (0, 0)
 
+    def with_base(self):
+        return self if is_of(self.own.get(BASE), "dir") else self.edit(BASE, DIR)
+
     def with_database(self):
-        root = self if is_of(self.own.get(BASE), "dir") else self.edit(BASE, DIR)
-        return root.edit(DATABASE, ("file", 0o644, database_bytes(2, self.troves, *self.numbers())))
+        return self.with_base().edit(DATABASE, ("file", 0o644, database_bytes(2, self.troves, *self.numbers())))
 
     def changed(self, targets):
         """The paths at which these targets aren't what stands."""
@@ -110,8 +112,7 @@ class Root(namedtuple("Root", "outer own troves jobs", defaults=[PINNED, {}, [],
         return root.with_database(), f"{count} taken back" if number is not None else f"r.{newest} taken back"
 
     def verify(self, names=(), far=()):
-        """What is found at the recorded paths of the troves of these names, or of all. `far` are contents that are found, or how a
-        search for one ends."""
+        """What is found at the recorded paths of the troves of these names, or of all. `far` are contents that are found, or how a search ends."""
         there = lists.names_of(self.troves)
         for name in names:
             if name not in there:

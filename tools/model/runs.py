@@ -91,8 +91,7 @@ class Counts:
         self.known = {}
 
     def find(self, tree, pick):
-        """Recovers what a crash leaves of a tree, and counts which of the two trees that is. Where the commit flag was set, it has to be
-        the tree after."""
+        """Recovers what a crash leaves of a tree, and counts which of the two trees that is: the one after where the commit flag was set."""
         image = tree.crash(pick)
         key = frozenset(image.nodes.items())
         if key not in self.known:

@@ -279,8 +279,7 @@ class Disk(Tree):
     # ---- a content store
 
     def store_put(self, directory, namer, data=None, source=None):
-        """Puts a content by its name where no file stands: a file that has it is moved. Else it is compared with what does, piece by
-        piece up to the first that differs."""
+        """Puts a content by its name where no file stands: a file that has it is moved. Else it is compared with what does, in pieces."""
         data = read_whole(self, source, PIECE) if data is None else data
         name = namer(data).hex().encode()
         path = joined(directory, name)
@@ -400,8 +399,7 @@ class Journal:
         return puts
 
     def keeps_rules(self, puts):
-        """Whether a log may hold puts whose paths rise: those that it may name, staged files that have a path, and nothing below what is
-        no directory."""
+        """Whether a log may hold puts whose paths rise: those that it may name, staged files with a path, nothing below what is no directory."""
         if any(not self.can_be_named(path) or is_of(want, "file") for path, want in puts):
             return False
         if not all(is_path(self.staged_path(want[2])) for _, want in puts if is_of(want, "staged")):

@@ -9,19 +9,10 @@ use std::alloc::Global;
 const MANY: u32 = 2000;
 
 /// A call on a root.
+#[derive(Drop)]
 pub struct Call {
     text: String,
     arguments: Vec<Argument>,
-}
-
-// Written by hand, so that to let a value go is a single call wherever a function ends early.
-impl Drop for Call {
-    fn drop(self) {
-        let Call {
-            text: _text,
-            arguments: _arguments,
-        } = self;
-    }
 }
 
 // The text with a tab for each `|`.
@@ -82,18 +73,10 @@ fn push_name(disk: &Quiet, answer: &mut Answer) {
 }
 
 // What a call leaves that was cut off or failed: its answer, and a disk that reads so and doesn't fail.
+#[derive(Drop)]
 struct Left {
     said: String,
     disk: Quiet,
-}
-
-impl Drop for Left {
-    fn drop(self) {
-        let Left {
-            said: _said,
-            disk: _disk,
-        } = self;
-    }
 }
 
 impl Left {
@@ -130,21 +113,12 @@ impl Left {
 }
 
 // What was told: of what was left, and what came of it.
+#[derive(Drop)]
 struct Told {
     left: Outcomes,
     texts: Outcomes,
     // Whether the answer is told too.
     with_answer: bool,
-}
-
-impl Drop for Told {
-    fn drop(self) {
-        let Told {
-            left: _left,
-            texts: _texts,
-            with_answer: _with_answer,
-        } = self;
-    }
 }
 
 impl Told {

@@ -7,14 +7,16 @@ ghost use Rattle.local_db.specs.declared.format.Format.TheVariants.{Two};
 ghost use Rattle.local_db.specs.Stores.{IsDatabase};
 
 use crate::root::{push_db, readied};
+use job_targets::change_pull::{Pull, Pulled};
 use line_words::cny_report::{changes_text, verified_text};
 use line_words::{Answer, Line};
-use local_db::{Db, are_allowed};
+use local_db::{Db, are_allowed, stage};
 use root_words::{Quiet, are_in_order, carried_of, edit_at, far_of, list_of, troves_of};
+use std::alloc::Global;
 use system_core::change_set::Carried;
-use system_core::cny_base::{Name, OutOfMemory, Text};
+use system_core::cny_base::{Name, OutOfMemory, Stop, Text};
 use system_core::trove_stream::{Installed, Trove};
-use system_core::{Done, adopt, erase, rollback, rollback_to, update, verify};
+use system_core::{Done, adopt, erase, rollback, rollback_to, update, update_staged, verify};
 
 // The lines of a text, with a comma and a space between two.
 fn push_lines(text: Result<Text, OutOfMemory>, answer: &mut Answer) {
@@ -67,6 +69,30 @@ fn updated(disk: &mut Quiet, db: &mut Db, line: &mut Line, answer: &mut Answer)
     let come = troves_of(line, 1);
     let carried = carried_of(line, 2);
     update_to(disk, db, &come, &carried, line, answer);
+}
+
+// The change set of this stream, whose contents stand in files then.
+fn pulled(alloc: Global, disk: &mut Quiet, stream: &[u8]) -> Result<Pulled, Stop> {
+    let dir = stage(alloc, disk)?;
+    let mut pull = Pull::new(alloc);
+    pull.feed(alloc, disk, &dir, stream)?;
+    Ok(pull.end()?)
+}
+
+// `update_staged OPTIONS TROVES STREAM FAR`: the contents are those of a change set, which are staged first.
+fn updated_staged(disk: &mut Quiet, db: &mut Db, line: &mut Line, answer: &mut Answer)
+    requires { IsDatabase Two db.old.installed db.old.oldest db.old.newest }
+{
+    let (options, come) = (line.options(0), troves_of(line, 1));
+    if !are_allowed(answer.alloc(), &come) {
+        return line.unreadable();
+    }
+    let alloc = answer.alloc();
+    if let Some(set) = answer.given(pulled(alloc, disk, line.bytes(2))) {
+        let mut far = far_of(line, 3);
+        let done = update_staged(alloc, disk, db, &come, &set.staged, &mut far, &options);
+        answer.outcome(done, told_job);
+    }
 }
 
 // The whole list becomes this one.
@@ -137,6 +163,7 @@ fn made_on(disk: &mut Quiet, db: &mut Db, line: &mut Line, answer: &mut Answer)
 {
     match line.name() {
         "update" => updated(disk, db, line, answer),
+        "update_staged" => updated_staged(disk, db, line, answer),
         "adopt" => adopted(disk, db, line, answer),
         "erase" => erased(disk, db, line, answer),
         "rollback" => taken_back(disk, db, answer),

@@ -62,10 +62,7 @@ pub fn within(line: &mut Line, answer: &mut Answer) {
     let calls = line.small(1);
     if let Some(mut disk) = disk_of(line, 0, 0) {
         disk.tree.stop_after(calls);
-        if answer
-            .given(migrate_on(answer.alloc(), &mut disk))
-            .is_some()
-        {
+        if let Some(()) = answer.given(migrate_on(answer.alloc(), &mut disk)) {
             answer.text("ended");
         }
     }
