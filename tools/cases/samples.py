@@ -48,10 +48,7 @@ def edited(data, start, end, others=b""):
 
 
 # Inputs of `showcs`, of which a part is another one, with the lines that are written or the text of the refusal.
-SETS = {
-    edited(*TABLE.named(data), *map(int, part.split()), TABLE.bytes(others)): TABLE.bytes(says)
-    for data, part, others, says in TABLE.fields("change sets")
-}
+SETS = {edited(*TABLE.named(data), *map(int, part.split()), TABLE.bytes(others)): TABLE.bytes(says) for data, part, others, says in TABLE.fields("change sets")}
 
 # Numbers that pick what a crash leaves.
 PICKS = (0, 1, 2**32 - 1)

@@ -9,6 +9,7 @@ from tools.cases import commands, mirrors, root_commands, root_examples, samples
 from tools.cases.rows import Rows
 from tools.lines.script import JOURNALS, recovered
 from tools.model import repository
+from tools.model.batches import lines_of, read_batch
 from tools.model.records import BASE, DATABASE
 from tools.model.trees import DIR, is_tree, is_within, joined, parent_of
 
@@ -26,6 +27,7 @@ CHANGES = [
     for topic, *sides in (("the root", "root"), ("the repository", "repo"), ("both", "root", "repo"))
     for row in TABLE.fields("changes of " + topic)
 ]
+DEMO = [(("root", "repo"), ["", "", "", "demo 1", "NONE"])]  # too many stops for the stored lines: tools/lines/demo_stops.py makes them
 
 
 def begun(script, row):
@@ -47,21 +49,18 @@ def counting(side, nodes):
 
 
 def states(script, side, words):
-    """What counts before a command, and behind it; of the batch behind each line."""
-    tree = script.trees[side].copy()
-    recovered(side, tree)
-    yield counting(side, tree.nodes)
-    lines = several.TABLE.fields("named batches")[0][1].split(" & ")
-    for count in range(1, len(lines) + 1) if words == [b"batch"] else [None]:
-        trees = script.copies(side)
-        script.streams.data = several.TABLE.batch(" & ".join(lines[:count])) if count else script.streams.data
-        script.called(words, trees)
+    """What counts before a command, and behind it; of the batch and of the demo behind each line."""
+    trees, data = script.copies(side), script.streams.data
+    recovered(side, trees[side])
+    yield counting(side, trees[side].nodes)
+    for line, script.streams.data in read_batch(data) if words == [b"batch"] else lines_of(1) if words[0] == b"demo" else [(words, data)]:
+        script.called(line, trees)
         yield counting(side, trees[side].nodes)
 
 
-def stop_cases(script):
+def stop_cases(script, rows=CHANGES):
     """Of a disk that isn't changed each crash leaves the same."""
-    for (changed, row), side in itertools.product(CHANGES, READERS):
+    for (changed, row), side in itertools.product(rows, READERS):
         words = begun(script, row)
         found = script.all_stops(side, PICKS if side in changed else PICKS[:1], *words) + script.faults(side, *words)
         allowed = list(states(script, side, words))

@@ -110,10 +110,7 @@ KINDS = {
         [(b"/etc", DIR), (b"/etc/conary", DIR)], REPO, standing("root", MODEL, b"sync", b"sync --replace"),
     ),
     "database": (stored(PLACES[:2], DATABASE), ROOT, (), standing("root", DATABASE, b"q", b"rblist", b"verify", b"rollback")),
-    "record": (
-        stored(PLACES[:2], record_path(1), record_path(2)), ROOT, (),
-        standing("root", record_path(2), b"rblist", b"rollback", b"rollback r.1"),
-    ),
+    "record": (stored(PLACES[:2], record_path(1), record_path(2)), ROOT, (), standing("root", record_path(2), b"rblist", b"rollback", b"rollback r.1")),
     "log of a root": (LOGS, (), (), behind_flag("root", JOURNAL, b"q")),
     "log of a repository": (LOGS, (), (), behind_flag("repo", repository.JOURNAL, b"rq")),
     "commit": (

@@ -274,12 +274,7 @@ def whole_flavor_of(text):
 REFUSED = None
 # By the sense of the trove's flag: where the system's is required, preferred, not preferred, forbidden and absent.
 COLUMNS = (b"", b"~", b"~!", b"!", None)
-WORTH = {
-    b"": (2, 1, REFUSED, REFUSED, REFUSED),
-    b"~": (1, 2, -1, -2, -1),
-    b"~!": (-2, -1, 2, 1, 1),
-    b"!": (REFUSED, REFUSED, 1, 2, 0),
-}
+WORTH = {b"": (2, 1, REFUSED, REFUSED, REFUSED), b"~": (1, 2, -1, -2, -1), b"~!": (-2, -1, 2, 1, 1), b"!": (REFUSED, REFUSED, 1, 2, 0)}
 
 
 def worths(flags, others):
