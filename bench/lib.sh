@@ -88,6 +88,15 @@ time_of() {
     echo "$((tenths / 10)).$((tenths % 10)) ms"
 }
 
+# What runs a command, and then tells its milliseconds and its peak of memory in bytes. It is a process of its own, since a process counts what
+# the one that started it had.
+measuring='
+import os, subprocess, sys, time
+begun = time.monotonic()
+_, ended, usage = os.wait4(subprocess.Popen(sys.argv[1:]).pid, 0)
+print(round((time.monotonic() - begun) * 1000), usage.ru_maxrss * 1024, file=sys.stderr)
+sys.exit(os.waitstatus_to_exitcode(ended))'
+
 # peak_of FILE COMMAND...: the greatest memory of a command, in bytes. What it prints goes to the file.
 peak_of() {
     python3 -c 'import resource, subprocess, sys

@@ -8,24 +8,15 @@ set -eu
 . "$(dirname "$0")/lib.sh"
 . "$top/tools/program.sh"
 choose_program
-exec python3 - "$program" "$work" "$top" "${1:-400000}" <<'END'
+exec python3 - "$program" "$work" "$top" "${1:-400000}" "$measuring" <<'END'
 import os, subprocess, sys
 from pathlib import Path
 
-program, work, top, most = sys.argv[1], Path(sys.argv[2]), sys.argv[3], int(sys.argv[4])
+program, work, top, most, measuring = sys.argv[1], Path(sys.argv[2]), sys.argv[3], int(sys.argv[4]), sys.argv[5]
 sys.path.insert(0, top)
 from tools.model.repository import commit_bytes, commit_path
 from tools.model.streams import ROOT, Id, Trove, regular
 
-# What runs a command, and then tells the milliseconds and the peak of memory in bytes. It is a process of its own, since a process counts what
-# the one that started it had.
-MEASURING = """
-import os, subprocess, sys, time
-begun = time.monotonic()
-_, ended, usage = os.wait4(subprocess.Popen(sys.argv[1:]).pid, 0)
-print(round((time.monotonic() - begun) * 1000), usage.ru_maxrss * 1024, file=sys.stderr)
-sys.exit(os.waitstatus_to_exitcode(ended))
-"""
 late = False
 
 
@@ -38,7 +29,7 @@ def room(name):
 def run(at, words, given=b""):
     """How long a command takes, in milliseconds, and its peak of memory, in bytes."""
     (at / "in").write_bytes(given)
-    command = [sys.executable, "-c", MEASURING, program, "--disk", at / "root", at / "repo", *words.split()]
+    command = [sys.executable, "-c", measuring, program, "--disk", at / "root", at / "repo", *words.split()]
     with open(at / "in", "rb") as source, open(at / "out", "wb") as out:
         done = subprocess.run(command, stdin=source, stdout=out, stderr=subprocess.PIPE)
     if done.returncode:

@@ -2,18 +2,20 @@
 # How long a repository of so many commits with five troves and 48 files of 1,200 bytes each is mirrored into an empty one over directories of
 # the host (`mirror ask`, `serve`, `mirror take`), as often as troves are missing; beside `cp -a` and `sync` of its directory; then once more,
 # where nothing is missing; with the peak of memory of each. Both repositories have the same troves then, and the second mirror changes
-# nothing. At last a stream of replies that is too long, and a commit of too many troves, are to be refused with their sizes.
-# Usage: bench/mirror.sh [COMMITS]
+# nothing. At last a stream of replies that is too long, and a commit of too many troves, are to be refused with their sizes. It ends with
+# status 1 where the first mirror takes more than 3 times as long as `cp -a` and `sync`, the second one more than 0.3 s, or `serve` more
+# memory than its longest reply and 30 MB.
+# Usage: bench/mirror.sh [COMMITS], where TMPDIR may name a folder on a disk that nothing else writes to
 # CONARY may name another program than the proved one of this copy.
 set -eu
 . "$(dirname "$0")/lib.sh"
 . "$top/tools/program.sh"
 choose_program
-exec python3 - "$program" "$work" "${1:-400}" <<'END'
+exec python3 - "$program" "$work" "${1:-400}" "$measuring" <<'END'
 import hashlib, os, subprocess, sys, time
 from pathlib import Path
 
-program, work, commits = sys.argv[1], Path(sys.argv[2]), int(sys.argv[3])
+program, work, commits, measuring = sys.argv[1], Path(sys.argv[2]), int(sys.argv[3]), sys.argv[4]
 KINDS = ("bin", "lib", "include", "share/doc")
 FILES, SIZE, LARGEST = 48, 1200, 16_777_216
 
@@ -47,18 +49,17 @@ def room(name):
 def made(name, words, given=b"", status=0):
     """What a command over a room answers, how long it took in milliseconds, and its peak of memory in bytes."""
     (work / "in").write_bytes(given)
-    begun = time.monotonic()
-    with open(work / "in", "rb") as source, open(work / "out", "wb") as out, open(work / "err", "wb") as err:
-        child = subprocess.Popen([program, "--disk", work / name / "root", work / name / "repo", *words.split()], stdin=source, stdout=out, stderr=err)
-        _, ended, usage = os.wait4(child.pid, 0)
-    spent = round((time.monotonic() - begun) * 1000)
-    if os.waitstatus_to_exitcode(ended) != status:
-        sys.exit(f"{words}: {(work / 'err').read_bytes()}")
-    return (work / ("err" if status else "out")).read_bytes(), spent, usage.ru_maxrss * 1024
+    command = [sys.executable, "-c", measuring, program, "--disk", work / name / "root", work / name / "repo", *words.split()]
+    with open(work / "in", "rb") as source, open(work / "out", "wb") as out:
+        done = subprocess.run(command, stdin=source, stdout=out, stderr=subprocess.PIPE)
+    *said, figures = done.stderr.splitlines(True)
+    if done.returncode != status:
+        sys.exit(f"{words}: {done.stderr.decode()}")
+    return b"".join(said) if status else (work / "out").read_bytes(), *map(int, figures.split())
 
 
 def mirror(to, source):
-    """Mirrors one room's repository into the other's, and tells what was taken, the milliseconds, and the peak of `serve`."""
+    """Mirrors one room's repository into the other's, and tells what was taken, the milliseconds, the peaks of memory, and how long the replies are."""
     asks, first, _ = made(to, "mirror ask")
     replies, second, peak = made(source, "serve", asks)
     text, third, taking = made(to, "mirror take", replies)
@@ -74,22 +75,34 @@ def refused(source, words, given, wanted):
 far, near = room("far"), room("near")
 lines = b"".join(b"cook <%d\n%s\n" % (len(data), data) for data in map(commit, range(commits)))
 made(far, "batch", lines)
-os.sync()
+# Of this file system alone: what others write elsewhere isn't waited for.
+sync = ["sync", "-f", work]
+subprocess.run(sync, check=True)
 begun = time.monotonic()
 subprocess.run(["cp", "-a", work / far / "repo", work / "copy"], check=True)
-os.sync()
+subprocess.run(sync, check=True)
+copied, late = round((time.monotonic() - begun) * 1000), False
 size = f"{commits} commits, {5 * commits} troves, {commits * FILES * SIZE / 1_000_000:.1f} MB of contents"
-print(f"cp -a and sync of the repository | {size} | {round((time.monotonic() - begun) * 1000)} ms")
-times, peaks, taken, length = [0, 0, 0], [0, 0], 0, 0
+
+
+def tell(what, figure, unit, most=None, limit=""):
+    global late
+    late = late or most is not None and figure > most
+    print(f"{what} | {size} | {figure} {unit}{limit and ' | ' + limit}")
+
+
+tell("cp -a and sync of the repository", copied, "ms")
+times, peaks, taken, lengths = [0, 0, 0], [0, 0], 0, []
 while (one := mirror(near, far))[0] != b"nothing changes\n":
-    times, peaks, taken, length = [a + b for a, b in zip(times, one[1])], list(map(max, peaks, one[2])), taken + one[0].count(b"\n"), length + one[3]
+    times, peaks = [a + b for a, b in zip(times, one[1])], list(map(max, peaks, one[2]))
+    taken, lengths = taken + one[0].count(b"\n"), [*lengths, one[3]]
 for what, spent in zip(("mirror ask", "serve", "mirror take"), times):
-    print(f"{what}, into an empty repository | {size} | {spent} ms")
-print(f"all three | {size} | {sum(times)} ms")
-print(f"the replies | {size} | {length} bytes")
-print(f"peak memory of serve | {size} | {peaks[0]} bytes")
-print(f"peak memory of mirror take | {size} | {peaks[1]} bytes")
-print(f"all three once more, where nothing is missing | {size} | {sum(one[1])} ms")
+    tell(f"{what}, into an empty repository", spent, "ms")
+tell("all three", sum(times), "ms", 3 * copied, "3 times cp -a and sync")
+tell("the longest stream of replies", max(lengths), "bytes")
+tell("peak memory of serve", peaks[0], "bytes", max(lengths) + 30_000_000, "that stream and 30 MB")
+tell("peak memory of mirror take", peaks[1], "bytes")
+tell("all three once more, where nothing is missing", sum(one[1]), "ms", 300, "300 ms")
 if taken != 5 * commits or sorted(made(near, "rq")[0].split()) != sorted(made(far, "rq")[0].split()):
     sys.exit("the mirror has other troves")
 large = room("large")
@@ -101,4 +114,5 @@ lines = b"".join(b"provides many:x%04d trove: a\n" % at for at in range(4096))
 made(many, "cook", b"manifest 1\npackage many\nversion /mirror.example.com@ex:devel/1.0-1-1\n" + lines + b"end\n")
 refused(many, "serve", asking(item(0x72, b"")), "too large: change set 4097")
 print("a reply that is too long, and a commit of 4,097 troves, are refused with their sizes")
+sys.exit(late)
 END
